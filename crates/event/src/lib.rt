@@ -1,0 +1,2 @@
+// The agenda of one event, over any source of days.
+pub mod agendas;

@@ -1,0 +1,46 @@
+-- Fields of a text, and the numbers that digits write.
+use mathlib.Core.Bool.{Bool, true, cond, _&&_}
+use mathlib.Core.List.{List, [], _∷_}
+use Prim.Native.Nat.{ℕ, _+_, _-_, _*_}
+use lib.Dec.{eqb, leb}
+use lib.ListN.{length}
+use Rattle.std.specs.declared.option.Option.{Option}
+use Rattle.std.specs.declared.option.Option.the-variants.{None, Some}
+use Rattle.std.specs.declared.result.Result.{Result}
+use Rattle.std.specs.declared.result.Result.the-variants.{Ok, Err}
+use Rattle.refusal.specs.declared.Refusal.{Refusal}
+use Rattle.refusal.specs.declared.Refusal.the-variants.{Malformed}
+
+-- the first place of x, counted from i
+abbrev pub seek : ℕ → ℕ → List ℕ → Option ℕ
+seek x i [] = None
+seek x i (y ∷ ys) = cond (eqb y x) (Some i) (seek x (i + 1) ys)
+
+abbrev pub isDigit : ℕ → Bool
+isDigit x = leb 48 x && leb x 57
+
+abbrev pub allDigits : List ℕ → Bool
+allDigits [] = true
+allDigits (x ∷ xs) = isDigit x && allDigits xs
+
+-- the number that digits write behind the number n
+abbrev pub valueFrom : ℕ → List ℕ → ℕ
+valueFrom n [] = n
+valueFrom n (x ∷ xs) = valueFrom (n * 10 + (x - 48)) xs
+
+-- at least so many and at most so many digits
+abbrev pub isNumeral : ℕ → ℕ → List ℕ → Bool
+isNumeral least most xs = (leb least (length xs) && leb (length xs) most) && allDigits xs
+
+-- the number that they write
+abbrev pub numeral : ℕ → ℕ → List ℕ → Option ℕ
+numeral least most xs = cond (isNumeral least most xs) (Some (valueFrom 0 xs)) None
+
+-- an absent value is a malformed one
+abbrev pub formed : {X : Type 0} → Option X → Result X Refusal
+formed None = Err Malformed
+formed (Some x) = Ok x
+
+-- a number of one to five digits
+abbrev pub number : List ℕ → Result ℕ Refusal
+number xs = formed (numeral 1 5 xs)

@@ -1,0 +1,55 @@
+// Fields of a text, and the numbers that digits write.
+ghost use mathlib.Core.Path.{_≡_};
+ghost use Prim.Native.Nat.{ℕ, _+_, _*_, _<_, _≤_, _^_};
+ghost use lib.ListN.{length};
+ghost use Rattle.std.specs.Options.{Cases as BySome};
+ghost use Rattle.notation.specs.Digits.{seek, isDigit, numeral, number};
+use refusal::Refusal;
+
+// The place of the first such character.
+pub(crate) fn find(octets: &[u8], mark: char) -> Option<usize>
+    ensures place { λ r. ⌜ r ≡ seek mark 0 (now (octets .entry)) ⌝ }
+    ensures within { λ r. ⌜ BySome r (Unit {0}) (λ i. i < length (now (octets .entry))) ⌝ }
+{
+    for (i, x) in octets.iter().enumerate() {
+        if *x as char == mark {
+            return Some(i);
+        }
+    }
+    None
+}
+
+fn is_digit(octet: u8) -> bool
+    ensures { λ r. ⌜ r ≡ isDigit octet ⌝ }
+{
+    octet >= b'0' && octet <= b'9'
+}
+
+// The number that so many digits write, or none where they are too few, too many or no digits.
+pub(crate) fn numeral_of(octets: &[u8], least: usize, most: usize) -> Option<u32>
+    requires { ⌜ most ≤ 9 ⌝ }
+    ensures value { λ r. ⌜ r ≡ numeral least most (now (octets .entry)) ⌝ }
+    ensures bound { λ r. ⌜ BySome r (Unit {0}) (λ n. n < 10 ^ most) ⌝ }
+{
+    if octets.len() < least || octets.len() > most {
+        return None;
+    }
+    let mut value: u32 = 0;
+    for x in octets {
+        if !is_digit(*x) {
+            return None;
+        }
+        value = value * 10 + (*x - b'0') as u32;
+    }
+    Some(value)
+}
+
+// A number of one to five digits.
+pub fn number_of(octets: &[u8]) -> Result<u32, Refusal>
+    ensures { λ r. ⌜ r ≡ number (now (octets .entry)) ⌝ }
+{
+    let Some(value) = numeral_of(octets, 1, 5) else {
+        return Err(Refusal::Malformed);
+    };
+    Ok(value)
+}

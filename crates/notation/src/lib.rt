@@ -1,0 +1,3 @@
+// The texts of numbers, dates, starts and intervals, and what they mean.
+
+pub mod digits;

@@ -1,0 +1,7 @@
+// The values of a series, with their bounds in their types.
+pub mod alphabets;
+pub mod clocks;
+pub mod durations;
+pub mod records;
+pub mod texts;
+pub mod uids;

@@ -1,0 +1,4 @@
+// Sources: what gives a series its days.
+pub mod interval_source;
+pub mod intervals;
+pub mod sources;
