@@ -1,20 +1,14 @@
--- Fields of a text, and the numbers that digits write.
+-- The numbers that digits write.
 use mathlib.Core.Bool.{Bool, true, cond, _&&_}
 use mathlib.Core.List.{List, [], _∷_}
 use Prim.Native.Nat.{ℕ, _+_, _-_, _*_}
-use lib.Dec.{eqb, leb}
+use lib.Dec.{leb}
 use lib.ListN.{length}
 use Rattle.std.specs.declared.option.Option.{Option}
 use Rattle.std.specs.declared.option.Option.the-variants.{None, Some}
 use Rattle.std.specs.declared.result.Result.{Result}
-use Rattle.std.specs.declared.result.Result.the-variants.{Ok, Err}
 use Rattle.refusal.specs.declared.Refusal.{Refusal}
-use Rattle.refusal.specs.declared.Refusal.the-variants.{Malformed}
-
--- the first place of x, counted from i
-abbrev pub seek : ℕ → ℕ → List ℕ → Option ℕ
-seek x i [] = None
-seek x i (y ∷ ys) = cond (eqb y x) (Some i) (seek x (i + 1) ys)
+use Rattle.notation.specs.Fields.{formed}
 
 abbrev pub isDigit : ℕ → Bool
 isDigit x = leb 48 x && leb x 57
@@ -35,11 +29,6 @@ isNumeral least most xs = (leb least (length xs) && leb (length xs) most) && all
 -- the number that they write
 abbrev pub numeral : ℕ → ℕ → List ℕ → Option ℕ
 numeral least most xs = cond (isNumeral least most xs) (Some (valueFrom 0 xs)) None
-
--- an absent value is a malformed one
-abbrev pub formed : {X : Type 0} → Option X → Result X Refusal
-formed None = Err Malformed
-formed (Some x) = Ok x
 
 -- a number of one to five digits
 abbrev pub number : List ℕ → Result ℕ Refusal

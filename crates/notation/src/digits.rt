@@ -1,23 +1,10 @@
-// Fields of a text, and the numbers that digits write.
+// The numbers that digits write.
 ghost use mathlib.Core.Path.{_≡_};
 ghost use Prim.Native.Nat.{ℕ, _+_, _*_, _<_, _≤_, _^_};
 ghost use lib.ListN.{length};
 ghost use Rattle.std.specs.Options.{Cases as BySome};
-ghost use Rattle.notation.specs.Digits.{seek, isDigit, numeral, number};
+ghost use Rattle.notation.specs.Digits.{isDigit, numeral, number};
 use refusal::Refusal;
-
-// The place of the first such character.
-pub(crate) fn find(octets: &[u8], mark: char) -> Option<usize>
-    ensures place { λ r. ⌜ r ≡ seek mark 0 (now (octets .entry)) ⌝ }
-    ensures within { λ r. ⌜ BySome r (Unit {0}) (λ i. i < length (now (octets .entry))) ⌝ }
-{
-    for (i, x) in octets.iter().enumerate() {
-        if *x as char == mark {
-            return Some(i);
-        }
-    }
-    None
-}
 
 fn is_digit(octet: u8) -> bool
     ensures { λ r. ⌜ r ≡ isDigit octet ⌝ }
