@@ -7,7 +7,7 @@ ghost use Rattle.std.specs.Results.{Cases};
 ghost use Rattle.std.specs.Options.{Cases as BySome};
 ghost use Rattle.std.specs.declared.option.Option.the-variants.{Some};
 ghost use Rattle.calendar.specs.Years.{lastDay};
-ghost use Rattle.page.specs.Pages.{Added, Full, Kept};
+ghost use Rattle.page.specs.Pages.{Added, Full, Kept, Short};
 ghost use Rattle.source.specs.Days.{firstFrom};
 ghost use Rattle.event.specs.Agenda.{dayLine, agendaText, shownDays, early, Printed, Refused};
 use calendar::days::date_of;
@@ -71,6 +71,29 @@ fn next_shown<S: Source>(series: &Series<S>, next: u32, end: u32) -> Option<u32>
     Some(day)
 }
 
+// Adds the lines of a window day by day; a refusal leaves those before it.
+fn put_days<S: Source>(
+    uid: &Uid,
+    series: &Series<S>,
+    from: u32,
+    end: u32,
+    octets: &mut [u8],
+    len: &mut usize,
+) -> Result<usize, Refusal>
+    requires { ⌜ from ≤ 157785120 ⌝ ∗ ⌜ now len ≤ length (now octets) ⌝ }
+    ensures kept { λ _. ⌜ Kept (now (octets .entry)) (now (octets .exit)) (now (len .entry)) ⌝ }
+    ensures cases { λ r. ⌜ Cases r (λ n. (n ≡ length (shownDays (S·Source .days) (now (series .entry)) from end)) × Added (agendaText (S·Source .days) (now (uid .entry)) (now (series .entry)) from end) (now (octets .entry)) (now (octets .exit)) (now (len .entry)) (now (len .exit))) (λ e. Short (agendaText (S·Source .days) (now (uid .entry)) (now (series .entry)) from end) (now (octets .entry)) (now (len .entry)) e) ⌝ }
+{
+    let mut next = first_day(from, series.clock.minute());
+    let mut lines = 0;
+    while let Some(day) = next_shown(series, next, end) {
+        put_day(octets, len, uid, series, day)?;
+        lines += 1;
+        next = day + 1;
+    }
+    Ok(lines)
+}
+
 // The event's lines for the occurrences that start in a window, and their number.
 pub fn agenda<S: Source>(
     uid: &Uid,
@@ -95,13 +118,7 @@ pub fn agenda<S: Source>(
         start,
         done: false,
     };
-    let mut next = first_day(from, series.clock.minute());
-    let mut lines = 0;
-    while let Some(day) = next_shown(series, next, end) {
-        put_day(octets, guard.len, uid, series, day)?;
-        lines += 1;
-        next = day + 1;
-    }
+    let lines = put_days(uid, series, from, end, octets, guard.len)?;
     guard.done = true;
     Ok(lines)
 }

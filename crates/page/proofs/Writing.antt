@@ -6,7 +6,7 @@ use native.Mathlib.Omega.{arith}
 use lib.ListN.{length, take}
 use Rattle.std.proofs.shelf.Lists.{append-nil, append-assoc, length-append}
 use Rattle.refusal.specs.declared.Refusal.{Refusal}
-use Rattle.page.specs.Pages.{Added, Full, Kept}
+use Rattle.page.specs.Pages.{Added, Full, Kept, Short}
 
 pub added-none : (o : List ℕ) (n : ℕ) → n ≤ length o → Added [] o o n n
 added-none o n h = record { room = omega arith; len = omega arith; octets = sym (append-nil (take n o)) }
@@ -24,5 +24,5 @@ pub kept-more : (a o p q : List ℕ) (n m : ℕ) → Added a o p n m → Kept o 
 kept-more a o p q n m s j k i h = k i (omega (arith, s .len)) ∙ j i h
 
 -- what fails after a part fails as a whole
-pub full-more : (a b w o p : List ℕ) (n m l r : ℕ) (e : Refusal) → length p ≡ length o → length a + length b ≤ length w → Added a o p n m → Full b p m l e → r ≡ n → Full w o n r e
-full-more a b w o p n m l r e h g s t u = record { short = omega (arith, s .len, t .short); len = u; number = t .number }
+pub short-more : (a b w o p : List ℕ) (n m l : ℕ) (e : Refusal) → length p ≡ length o → length a + length b ≤ length w → Added a o p n m → Full b p m l e → Short w o n e
+short-more a b w o p n m l e h g s t = record { short = omega (arith, s .len, t .short); number = t .number }

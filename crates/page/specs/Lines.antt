@@ -13,15 +13,15 @@ abbrev pub four : ℕ → List ℕ
 four n = (48 + n / 1000 % 10) ∷ (48 + n / 100 % 10) ∷ two n
 
 -- yyyymmdd
-abbrev pub dateText : Date → List ℕ
+unfoldable pub dateText : Date → List ℕ
 dateText t = four (t .year) ++ (two (t .month) ++ two (t .day))
 
 -- hhmm
-abbrev pub clockText : ℕ → List ℕ
+unfoldable pub clockText : ℕ → List ℕ
 clockText c = two (c / 60) ++ two (c % 60)
 
 -- five fields, parted by commas and ended by the octet 10
-abbrev pub fieldsText : List ℕ → List ℕ → List ℕ → List ℕ → List ℕ → List ℕ
+unfoldable pub fieldsText : List ℕ → List ℕ → List ℕ → List ℕ → List ℕ → List ℕ
 fieldsText day minute duration uid text = day ++ (44 ∷ (minute ++ (44 ∷ (duration ++ (44 ∷ (uid ++ (44 ∷ (text ++ (10 ∷ [])))))))))
 
 -- yyyymmdd,hhmm,duration,UID,text

@@ -16,6 +16,11 @@ pub record Added (piece o p : List ℕ) (n m : ℕ) : Type 0 where
   pub len : m ≡ n + length piece
   pub octets : take m p ≡ take n o ++ piece
 
+-- the piece does not fit
+pub record Short (piece o : List ℕ) (n : ℕ) (e : Refusal) : Type 0 where
+  pub short : length o < n + length piece
+  pub number : numberOf e ≡ 23
+
 -- the piece does not fit, and the length is as it was
 pub record Full (piece o : List ℕ) (n m : ℕ) (e : Refusal) : Type 0 where
   pub short : length o < n + length piece

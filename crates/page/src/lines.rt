@@ -9,7 +9,7 @@ ghost use Rattle.page.specs.Lines.{fieldsText, lineText};
 use crate::numbers::DIGITS;
 use crate::numbers::clock_octets;
 use crate::numbers::date_octets;
-use crate::numbers::fill_decimal;
+use crate::numbers::decimal_in;
 use crate::pages::put_all;
 use calendar::date::Date;
 use refusal::Refusal;
@@ -60,6 +60,6 @@ pub fn put_line(
     let day = date_octets(date);
     let minute = clock_octets(clock);
     let mut digits = [0u8; DIGITS];
-    let at = fill_decimal(&mut digits, duration as u32);
-    put_fields(octets, len, &day, &minute, &digits[at..], uid, text)
+    let minutes = decimal_in(&mut digits, duration as usize);
+    put_fields(octets, len, &day, &minute, minutes, uid, text)
 }

@@ -11,13 +11,22 @@ use crate::pages::put;
 use calendar::date::Date;
 use refusal::Refusal;
 
-// The most digits that a `u32` has.
-pub(crate) const DIGITS: usize = 10;
+// The most digits that a `usize` has.
+pub(crate) const DIGITS: usize = 20;
+
+// The digits of n, written at the end of a room of that many octets.
+pub(crate) fn decimal_in(digits: &mut [u8], n: usize) -> &[u8]
+    requires { ⌜ length (now digits) ≡ 20 ⌝ }
+    ensures { λ r. ⌜ now r ≡ decimal n ⌝ }
+{
+    let at = fill_decimal(digits, n);
+    &digits[at..]
+}
 
 // Writes the digits of n at the end of `digits`, and answers where they begin.
-pub(crate) fn fill_decimal(digits: &mut [u8], n: u32) -> usize
-    requires { ⌜ length (now digits) ≡ 10 ⌝ }
-    ensures within { λ r. ⌜ r < 10 ⌝ }
+fn fill_decimal(digits: &mut [u8], n: usize) -> usize
+    requires { ⌜ length (now digits) ≡ 20 ⌝ }
+    ensures within { λ r. ⌜ r < 20 ⌝ }
     ensures value { λ r. ⌜ drop r (now (digits .exit)) ≡ decimal n ⌝ }
 {
     let mut at = digits.len();
@@ -63,13 +72,13 @@ pub(crate) fn clock_octets(clock: u16) -> [u8; 4]
 }
 
 // Adds a number without leading zeros.
-pub fn put_decimal(octets: &mut [u8], len: &mut usize, n: u32) -> Result<(), Refusal>
+pub fn put_decimal(octets: &mut [u8], len: &mut usize, n: usize) -> Result<(), Refusal>
     ensures kept { λ _. ⌜ Kept (now (octets .entry)) (now (octets .exit)) (now (len .entry)) ⌝ }
     ensures cases { λ r. ⌜ Cases r (λ _. Added (decimal n) (now (octets .entry)) (now (octets .exit)) (now (len .entry)) (now (len .exit))) (λ e. Full (decimal n) (now (octets .entry)) (now (len .entry)) (now (len .exit)) e) ⌝ }
 {
     let mut digits = [0u8; DIGITS];
-    let at = fill_decimal(&mut digits, n);
-    put(octets, len, &digits[at..])
+    let piece = decimal_in(&mut digits, n);
+    put(octets, len, piece)
 }
 
 // Adds a date as yyyymmdd.

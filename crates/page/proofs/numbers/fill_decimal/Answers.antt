@@ -13,7 +13,7 @@ pub loop-rest-holds : need.loop-rest-holds
 loop-rest-holds c =
     let xs = c .args .digits .now in (
       omega (arith, c .pre),
-      omega (arith, c .pre, length-decimal-le 10 (c .args .n) (omega arith) (omega arith) (omega arith)),
+      omega (arith, c .pre, length-decimal-le 20 (c .args .n) (omega arith) (omega arith) (omega arith)),
       ap (λ ys. decimal (c .args .n) ++ ys) (drop-all (length xs) xs (omega arith)) ∙ append-nil (decimal (c .args .n)),
       omega arith,
     )

@@ -10,8 +10,8 @@ use Rattle.page.specs.Pages.{Added}
 use Rattle.std.proofs.shelf.Results.{err-from-errBy}
 use Rattle.std.specs.Joined.{joined}
 use Rattle.page.proofs.Joins.{joined-push, joined-within}
-use Rattle.page.proofs.Writing.{added-none, added-more, kept-more, full-more}
-use Rattle.page.proofs.pages.put_all.Needs as need
+use Rattle.page.proofs.Writing.{added-none, added-more, kept-more, short-more}
+use Rattle.page.proofs.pages.put_each.Needs as need
 
 pub loop-piece-holds : need.loop-piece-holds
 loop-piece-holds c = (added-none (c .args .octets .now) (c .args .len .now) (omega arith), λ k h. refl)
@@ -24,8 +24,8 @@ loop-piece-again c =
     let h = c .in-Continue-put .ensures tt in
     let d : RefT (List ℕ) = record { ptr = (0, 0); name = 0; now = [] } in (
       rw (joined-push now xs i d (omega arith))
-          (added-more (joined now (take i xs)) (now (getD xs i d)) (c .args .octets .now) (c .loop-piece .octets) (c .put .last .octets) (c .args .len .now) (c .loop-piece .guard .len .now) (c .put .last .len) (c .loop-piece .kept .octets) (v .0) (h .cases)),
-      kept-more (joined now (take i xs)) (c .args .octets .now) (c .loop-piece .octets) (c .put .last .octets) (c .args .len .now) (c .loop-piece .guard .len .now) (v .0) (v .1) (h .kept),
+          (added-more (joined now (take i xs)) (now (getD xs i d)) (c .args .octets .now) (c .loop-piece .octets) (c .put .last .octets) (c .args .len .now) (c .loop-piece .len) (c .put .last .len) (c .loop-piece .kept .octets) (v .0) (h .cases)),
+      kept-more (joined now (take i xs)) (c .args .octets .now) (c .loop-piece .octets) (c .put .last .octets) (c .args .len .now) (c .loop-piece .len) (v .0) (v .1) (h .kept),
     )
 
 pub returns-in-Break-put : need.returns-in-Break-put
@@ -36,14 +36,14 @@ returns-in-Break-put c =
     let d : RefT (List ℕ) = record { ptr = (0, 0); name = 0; now = [] } in
     let p = err-from-errBy (c .from-residual .result) (c .from-residual .ensures .1) in
     rw (p .1, p .2) (record {
-      kept = kept-more (joined now (take i xs)) (c .args .octets .now) (c .loop-piece .octets) (c .put .last .octets) (c .args .len .now) (c .loop-piece .guard .len .now) (v .0) (v .1) (c .in-Break-put .ensures tt .kept);
-      cases = full-more (joined now (take i xs)) (now (getD xs i d)) (joined now xs) (c .args .octets .now) (c .loop-piece .octets) (c .args .len .now) (c .loop-piece .guard .len .now) (c .put .last .len) _ _ (c .loop-piece .kept .octets)
-          (joined-within now xs i d (omega arith)) (v .0) (c .in-Break-put .ensures tt .cases) (search needs);
+      kept = kept-more (joined now (take i xs)) (c .args .octets .now) (c .loop-piece .octets) (c .put .last .octets) (c .args .len .now) (c .loop-piece .len) (v .0) (v .1) (c .in-Break-put .ensures tt .kept);
+      cases = short-more (joined now (take i xs)) (now (getD xs i d)) (joined now xs) (c .args .octets .now) (c .loop-piece .octets) (c .args .len .now) (c .loop-piece .len) (c .put .last .len) _ (c .loop-piece .kept .octets)
+          (joined-within now xs i d (omega arith)) (v .0) (c .in-Break-put .ensures tt .cases);
     })
 
 pub returns : need.returns
 returns c =
     let xs = c .args .pieces .now in
     let e : take (c .loop-piece .piece-index) xs ≡ xs = take-all (c .loop-piece .piece-index) xs (omega arith) in
-    let a : Added (joined now xs) (c .args .octets .now) (c .loop-piece .octets) (c .args .len .now) (c .loop-piece .guard .len .now) = rw e at (c .loop-piece .inv .0) in
+    let a : Added (joined now xs) (c .args .octets .now) (c .loop-piece .octets) (c .args .len .now) (c .loop-piece .len) = rw e at (c .loop-piece .inv .0) in
     record { kept = c .loop-piece .inv .1; cases = search needs }
