@@ -1,7 +1,10 @@
 // Days and their dates, one from the other.
 ghost use mathlib.Core.Path.{_≡_};
 ghost use Prim.Native.Nat.{ℕ, _+_, _-_, _<_, _≤_};
-ghost use Rattle.calendar.specs.Dates.{dateAt, dayAt};
+ghost use Rattle.std.specs.Options.{Cases as BySome};
+ghost use Rattle.std.specs.declared.option.Option.the-variants.{Some};
+ghost use Rattle.calendar.specs.Dates.{dateOf, dateAt, dayAt};
+ghost use Rattle.calendar.specs.Years.{lastDay};
 ghost use Rattle.calendar.specs.Laws.{Inverse, Follows, OneDay};
 use crate::date::Date;
 use crate::months::days_before;
@@ -16,6 +19,7 @@ pub const LAST_DAY: u32 = 109_572;
 // The date of a day, or none past the last day.
 pub fn date_of(day: u32) -> Option<Date>
     ensures value { λ r. ⌜ r ≡ dateAt day ⌝ }
+    ensures there { λ r. ⌜ (day ≤ lastDay → r ≡ Some (dateOf day)) ⌝ }
     ensures inverse { λ _. ⌜ Inverse ⌝ }
     ensures follows { λ _. ⌜ Follows ⌝ }
 {
@@ -34,6 +38,7 @@ pub fn date_of(day: u32) -> Option<Date>
 // The day of a date, or none where the date does not exist or lies outside 1900 to 2199.
 pub fn day_of(date: Date) -> Option<u32>
     ensures value { λ r. ⌜ r ≡ dayAt date ⌝ }
+    ensures bound { λ r. ⌜ BySome r (Unit {0}) (λ d. d ≤ lastDay) ⌝ }
     ensures inverse { λ _. ⌜ Inverse ⌝ }
     ensures one { λ _. ⌜ OneDay ⌝ }
 {

@@ -1,6 +1,8 @@
 // Days as yyyymmdd, and moments as yyyymmddThhmm00.
 ghost use mathlib.Core.Path.{_≡_};
 ghost use Prim.Native.Nat.{ℕ, _+_, _*_, _/_, _%_, _<_, _≤_};
+ghost use Rattle.std.specs.Results.{Cases};
+ghost use Rattle.calendar.specs.Years.{lastDay};
 ghost use Rattle.notation.specs.Dates.{dateNamed, dayNamed, momentNamed};
 use crate::digits::numeral_of;
 use crate::fields::cut;
@@ -23,7 +25,8 @@ fn date_named(digits: u32) -> Date
 
 // The day that yyyymmdd names.
 pub fn read_day(octets: &[u8]) -> Result<u32, Refusal>
-    ensures { λ r. ⌜ r ≡ dayNamed (now (octets .entry)) ⌝ }
+    ensures value { λ r. ⌜ r ≡ dayNamed (now (octets .entry)) ⌝ }
+    ensures bound { λ r. ⌜ Cases r (λ d. d ≤ lastDay) (λ _. Unit {0}) ⌝ }
 {
     let Some(digits) = numeral_of(octets, 8, 8) else {
         return Err(Refusal::Malformed);
@@ -36,7 +39,8 @@ pub fn read_day(octets: &[u8]) -> Result<u32, Refusal>
 
 // The day and the minute that yyyymmddThhmm00 names.
 pub fn read_moment(octets: &[u8]) -> Result<Moment, Refusal>
-    ensures { λ r. ⌜ r ≡ momentNamed (now (octets .entry)) ⌝ }
+    ensures value { λ r. ⌜ r ≡ momentNamed (now (octets .entry)) ⌝ }
+    ensures bound { λ r. ⌜ Cases r (λ m. m .clock < 1440) (λ _. Unit {0}) ⌝ }
 {
     let Some((date, time)) = cut(octets, 'T') else {
         return Err(Refusal::Malformed);

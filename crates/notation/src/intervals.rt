@@ -1,6 +1,7 @@
 // Intervals as Rn/yyyymmddThhmm00/PmD.
 ghost use mathlib.Core.Path.{_≡_};
 ghost use Prim.Native.Nat.{ℕ, _+_, _<_, _≤_};
+ghost use Rattle.std.specs.Results.{Cases};
 ghost use Rattle.notation.specs.Intervals.{repeatNamed, periodNamed, intervalNamed};
 use crate::dates::read_moment;
 use crate::digits::number_of;
@@ -53,7 +54,8 @@ fn read_period(octets: &[u8]) -> Result<u32, Refusal>
 
 // The parts of Rn/yyyymmddThhmm00/PmD: first the form of all, then whether there is such a start.
 pub fn read_interval(octets: &[u8]) -> Result<Spelled, Refusal>
-    ensures { λ r. ⌜ r ≡ intervalNamed (now (octets .entry)) ⌝ }
+    ensures value { λ r. ⌜ r ≡ intervalNamed (now (octets .entry)) ⌝ }
+    ensures bound { λ r. ⌜ Cases r (λ s. s .start .clock < 1440) (λ _. Unit {0}) ⌝ }
 {
     let Some((repeat, rest)) = cut(octets, '/') else {
         return Err(Refusal::Malformed);

@@ -12,13 +12,15 @@ pub struct Clock {
 }
 
 impl Clock {
-    pub fn new(minute: u16) -> Result<Clock, Refusal>
+    pub fn new(minute: u32) -> Result<Clock, Refusal>
         ensures { λ r. ⌜ Cases r (λ c. c .minute ≡ minute) (λ e. (1440 ≤ minute) × (number e ≡ 8)) ⌝ }
     {
         if minute > 1439 {
             return Err(Refusal::OutOfBounds);
         }
-        Ok(Clock { minute })
+        Ok(Clock {
+            minute: minute as u16,
+        })
     }
 
     pub fn minute(self) -> u16

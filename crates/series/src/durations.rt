@@ -12,13 +12,15 @@ pub struct Duration {
 }
 
 impl Duration {
-    pub fn new(minutes: u16) -> Result<Duration, Refusal>
+    pub fn new(minutes: u32) -> Result<Duration, Refusal>
         ensures { λ r. ⌜ Cases r (λ d. d .minutes ≡ minutes) (λ e. (1440 < minutes) × (number e ≡ 8)) ⌝ }
     {
         if minutes > 1440 {
             return Err(Refusal::OutOfBounds);
         }
-        Ok(Duration { minutes })
+        Ok(Duration {
+            minutes: minutes as u16,
+        })
     }
 
     pub fn minutes(self) -> u16

@@ -13,7 +13,7 @@ use Rattle.calendar.proofs.NextDates.{follows}
 use Rattle.calendar.proofs.days.date_of.Needs as need
 
 pub returns-then-day-gt-LAST-DAY : need.returns-then-day-gt-LAST-DAY
-returns-then-day-gt-LAST-DAY c = record { value = no-date (c .args .day) (omega arith); inverse = inverse; follows = follows }
+returns-then-day-gt-LAST-DAY c = record { value = no-date (c .args .day) (omega arith); there = λ h. absurd (omega arith); inverse = inverse; follows = follows }
 
 pub returns : need.returns
 unfolding dayOf
@@ -32,4 +32,9 @@ returns c =
       day-high = omega (arith, m .within .1, l);
     } in
     let o = date-from t (c .args .day) i (omega (arith, m .day, b, y .within, c .year-start .ensures .value)) in
-    record { value = sym (some-date (c .args .day) (o .0) ∙ ap (λ u. Some u) (o .1)); inverse = inverse; follows = follows }
+    record {
+      value = sym (some-date (c .args .day) (o .0) ∙ ap (λ u. Some u) (o .1));
+      there = λ h. ap (λ u. Some u) (sym (o .1));
+      inverse = inverse;
+      follows = follows;
+    }

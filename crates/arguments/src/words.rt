@@ -1,0 +1,97 @@
+// Each argument's word, read or refused.
+ghost use mathlib.Core.Path.{_≡_};
+ghost use Prim.Native.Nat.{ℕ, _<_, _≤_};
+ghost use Rattle.std.specs.Results.{Cases};
+ghost use Rattle.std.specs.declared.option.Option.the-variants.{None, Some};
+ghost use Rattle.std.specs.declared.result.Result.the-variants.{Ok};
+ghost use Rattle.notation.specs.Digits.{number};
+ghost use Rattle.arguments.specs.Words.{spelled};
+ghost use Rattle.notation.specs.Intervals.{intervalNamed};
+ghost use Rattle.notation.specs.Dates.{dayNamed};
+ghost use Rattle.series.specs.Values.{textOctets, uidOctets};
+ghost use Rattle.calendar.specs.Years.{lastDay};
+ghost use Rattle.arguments.specs.Faults.{told, countFault, uidFault, textFault, intervalFault, durationFault, dayFault};
+use crate::faults::Argument;
+use crate::faults::Fault;
+use crate::timed::Timed;
+use notation::dates::read_day;
+use notation::digits::number_of;
+use notation::intervals::read_interval;
+use series::clocks::Clock;
+use series::durations::Duration;
+use series::texts::Text;
+use series::uids::Uid;
+use source::intervals::Interval;
+
+// Whether there are six words.
+pub fn check_count(count: usize) -> Result<(), Fault>
+    ensures { λ r. ⌜ Cases r (λ _. countFault count ≡ None) (λ f. countFault count ≡ Some (told f)) ⌝ }
+{
+    match count {
+        0 => Err(Fault::Missing(Argument::Uid)),
+        1 => Err(Fault::Missing(Argument::Interval)),
+        2 => Err(Fault::Missing(Argument::Duration)),
+        3 => Err(Fault::Missing(Argument::Text)),
+        4 => Err(Fault::Missing(Argument::First)),
+        5 => Err(Fault::Missing(Argument::Last)),
+        6 => Ok(()),
+        _ => Err(Fault::Surplus),
+    }
+}
+
+pub fn read_uid(word: &[u8]) -> Result<Uid, Fault>
+    ensures { λ r. ⌜ Cases r (λ u. (uidFault (now (word .entry)) ≡ None) × (uidOctets u ≡ now (word .entry))) (λ f. uidFault (now (word .entry)) ≡ Some (told f)) ⌝ }
+{
+    match Uid::new(word) {
+        Ok(uid) => Ok(uid),
+        Err(refusal) => Err(Fault::Refused(Argument::Uid, refusal)),
+    }
+}
+
+pub fn read_text(word: &[u8]) -> Result<Text, Fault>
+    ensures { λ r. ⌜ Cases r (λ t. (textFault (now (word .entry)) ≡ None) × (textOctets t ≡ now (word .entry))) (λ f. textFault (now (word .entry)) ≡ Some (told f)) ⌝ }
+{
+    match Text::new(word) {
+        Ok(text) => Ok(text),
+        Err(refusal) => Err(Fault::Refused(Argument::Text, refusal)),
+    }
+}
+
+pub fn read_timing(word: &[u8]) -> Result<Timed, Fault>
+    ensures { λ r. ⌜ Cases r (λ t. (intervalFault (now (word .entry)) ≡ None) × (intervalNamed (now (word .entry)) ≡ Ok (spelled t))) (λ f. intervalFault (now (word .entry)) ≡ Some (told f)) ⌝ }
+{
+    let spelled = match read_interval(word) {
+        Ok(spelled) => spelled,
+        Err(refusal) => return Err(Fault::Refused(Argument::Interval, refusal)),
+    };
+    let interval = match Interval::new(spelled.start.day, spelled.step, spelled.count) {
+        Ok(interval) => interval,
+        Err(refusal) => return Err(Fault::Refused(Argument::Interval, refusal)),
+    };
+    match Clock::new(spelled.start.clock as u32) {
+        Ok(clock) => Ok(Timed { interval, clock }),
+        Err(refusal) => Err(Fault::Refused(Argument::Interval, refusal)),
+    }
+}
+
+pub fn read_duration(word: &[u8]) -> Result<Duration, Fault>
+    ensures { λ r. ⌜ Cases r (λ d. (durationFault (now (word .entry)) ≡ None) × (number (now (word .entry)) ≡ Ok (d .minutes))) (λ f. durationFault (now (word .entry)) ≡ Some (told f)) ⌝ }
+{
+    let minutes = match number_of(word) {
+        Ok(minutes) => minutes,
+        Err(refusal) => return Err(Fault::Refused(Argument::Duration, refusal)),
+    };
+    match Duration::new(minutes) {
+        Ok(duration) => Ok(duration),
+        Err(refusal) => Err(Fault::Refused(Argument::Duration, refusal)),
+    }
+}
+
+pub fn read_date(word: &[u8], argument: Argument) -> Result<u32, Fault>
+    ensures { λ r. ⌜ Cases r (λ d. (dayFault argument (now (word .entry)) ≡ None) × (dayNamed (now (word .entry)) ≡ Ok d) × (d ≤ lastDay)) (λ f. dayFault argument (now (word .entry)) ≡ Some (told f)) ⌝ }
+{
+    match read_day(word) {
+        Ok(day) => Ok(day),
+        Err(refusal) => Err(Fault::Refused(argument, refusal)),
+    }
+}
