@@ -1,18 +1,14 @@
 -- What a job has from its words, and what is printed of it.
-use mathlib.Core.List.{List, [], _∷_, _++_}
+use mathlib.Core.List.{List, _++_}
 use mathlib.Core.Path.{_≡_}
-use Prim.Native.Nat.{ℕ, _+_}
+use Prim.Native.Nat.{ℕ, _+_, _*_}
 use denote.Ref.{RefT}
-use lib.Chars.{codes}
 use lib.ListN.{length}
-use Rattle.std.specs.Written.{decimal}
 use Rattle.std.specs.declared.result.Result.{Result}
 use Rattle.std.specs.declared.result.Result.the-variants.{Ok}
-use Rattle.calendar.specs.declared.date.Date.{Date}
 use Rattle.calendar.specs.Dates.{dateOf}
-use Rattle.calendar.specs.Starts.{startOf}
 use Rattle.event.specs.Agenda.{agendaText, shownDays}
-use Rattle.page.specs.Lines.{dateText}
+use Rattle.page.specs.Summaries.{summaryText}
 use Rattle.source.specs.Intervals.{intervalDays}
 use Rattle.notation.specs.Dates.{dayNamed}
 use Rattle.notation.specs.Digits.{number}
@@ -33,20 +29,16 @@ pub record Reads (uid interval duration text first last : List ℕ) (j : Job) : 
 abbrev pub ReadsAll : List (RefT (List ℕ)) → Job → Type 0
 ReadsAll ws j = Reads (wordAt ws 0) (wordAt ws 1) (wordAt ws 2) (wordAt ws 3) (wordAt ws 4) (wordAt ws 5) j
 
--- its window: from the first minute of the first day to the last of the last
-abbrev pub from : Job → ℕ
-from j = startOf (j .first) 0
+-- its window, in minutes: both days are whole
+abbrev pub fromOf : Job → ℕ
+fromOf j = j .first * 1440
 
-abbrev pub end : Job → ℕ
-end j = startOf (j .last + 1) 0
-
--- the line that says what was done
-unfoldable pub summaryText : ℕ → Date → Date → List ℕ
-summaryText n first last = codes "printed " ++ (decimal n ++ (codes " lines from " ++ (dateText first ++ (codes " to " ++ (dateText last ++ (10 ∷ []))))))
+abbrev pub endOf : Job → ℕ
+endOf j = (j .last + 1) * 1440
 
 abbrev pub jobLines : Job → ℕ
-jobLines j = length (shownDays intervalDays (j .series) (from j) (end j))
+jobLines j = length (shownDays intervalDays (j .series) (fromOf j) (endOf j))
 
 -- the event's lines, and the summary
 abbrev pub jobText : Job → List ℕ
-jobText j = agendaText intervalDays (j .uid) (j .series) (from j) (end j) ++ summaryText (jobLines j) (dateOf (j .first)) (dateOf (j .last))
+jobText j = agendaText intervalDays (j .uid) (j .series) (fromOf j) (endOf j) ++ summaryText (jobLines j) (dateOf (j .first)) (dateOf (j .last))

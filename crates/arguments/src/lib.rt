@@ -2,5 +2,6 @@
 pub mod faults;
 pub mod job;
 pub mod jobs;
+pub mod prints;
 pub mod timed;
 pub mod words;
