@@ -14,11 +14,12 @@ use Rattle.std.specs.declared.option.Option.the-variants.{None, Some}
 use Rattle.std.proofs.shelf.Elements.{all-weaker}
 use Rattle.std.proofs.shelf.Tests.{cases-lt, lt-ltb, le-ltb, lt-leb}
 use Rattle.source.specs.Days.{Ascending, firstFrom, before, since, headOf}
-use Rattle.source.specs.Intervals.{ticks, Cut}
+use Rattle.source.specs.declared.intervals.Interval.{Interval}
+use Rattle.source.specs.Intervals.{ticks, Cut, Placed}
 use Rattle.source.proofs.Kept.{kept-none}
 use Rattle.source.proofs.Ascents.{before-both, since-whole}
 
-pub ticks-from : (s k n a : ℕ) → a ≤ s → All (λ x. a ≤ x) (ticks s k n)
+ticks-from : (s k n a : ℕ) → a ≤ s → All (λ x. a ≤ x) (ticks s k n)
 ticks-from s k zero a h = tt
 ticks-from s k (suc n) a h = (h, ticks-from (s + k) k n a (omega arith))
 
@@ -27,7 +28,7 @@ ticks-ascend s k zero h = tt
 ticks-ascend s k (suc n) h =
     (all-weaker (λ x. s + 1 ≤ x) (λ x. s < x) (λ x g. omega arith) (ticks (s + k) k n) (ticks-from (s + k) k n (s + 1) (omega arith)), ticks-ascend (s + k) k n h)
 
-pub length-ticks : (s k n : ℕ) → length (ticks s k n) ≡ n
+length-ticks : (s k n : ℕ) → length (ticks s k n) ≡ n
 length-ticks s k zero = refl
 length-ticks s k (suc n) = ap suc (length-ticks (s + k) k n)
 
@@ -44,14 +45,14 @@ next-cut {s} {k} {n} {m} {d} c = record {
   over = λ h. let u : d ≤ s + suc m * k = c .over (omega arith) in omega (arith, suc-mul m k);
 }
 
-pub before-ticks : (s k n m d : ℕ) → Cut s k n m d → before d (ticks s k n) ≡ ticks s k m
+before-ticks : (s k n m d : ℕ) → Cut s k n m d → before d (ticks s k n) ≡ ticks s k m
 before-ticks s k zero zero d c = refl
 before-ticks s k zero (suc m) d c = absurd (let h = c .within in omega arith)
 before-ticks s k (suc n) zero d c =
     kept-none (λ x. ltb x d) (ticks s k (suc n)) (all-weaker (λ x. d ≤ x) (λ x. ltb x d ≡ false) (λ x h. le-ltb x d h) (ticks s k (suc n)) (ticks-from s k (suc n) d (first-over c)))
 before-ticks s k (suc n) (suc m) d c = rw (lt-ltb s d (first-under c)) (ap (λ xs. s ∷ xs) (before-ticks (s + k) k n m d (next-cut c)))
 
-pub since-ticks : (s k n m d : ℕ) → Cut s k n m d → since d (ticks s k n) ≡ ticks (s + m * k) k (n - m)
+since-ticks : (s k n m d : ℕ) → Cut s k n m d → since d (ticks s k n) ≡ ticks (s + m * k) k (n - m)
 since-ticks s k zero zero d c = refl
 since-ticks s k zero (suc m) d c = absurd (let h = c .within in omega arith)
 since-ticks s k (suc n) zero d c =
@@ -66,13 +67,12 @@ since-ticks s k (suc n) (suc m) d c =
     (since-ticks (s + k) k n m d (next-cut c) ∙ ap (λ a. ticks a k (n - m)) e ∙ ap (λ a. ticks (s + suc m * k) k a) f)
 
 -- the first of the days that are left
-pub first-ticks : (s k n : ℕ) → 0 < n → headOf (ticks s k n) ≡ Some s
-first-ticks s k zero h = absurd (omega arith)
-first-ticks s k (suc n) h = refl
-
-pub none-ticks : (s k n : ℕ) → n ≤ 0 → headOf (ticks s k n) ≡ None
-none-ticks s k zero h = refl
-none-ticks s k (suc n) h = absurd (omega arith)
+first-ticks : (s k h m : ℕ) → headOf (ticks s k (h - m)) ≡ cond (ltb m h) (Some s) None
+first-ticks s k h m =
+    ⊎-elim
+    (λ (l : m < h). let e : h - m ≡ suc (h - m - 1) = omega arith in rw (lt-ltb m h l, e))
+    (λ (l : h ≤ m). let e : h - m ≡ 0 = omega arith in rw (le-ltb m h l, e))
+    (cases-lt m h)
 
 -- the place of d among the days, by a quotient
 pub quotient-under : (s k d j : ℕ) → 0 < k → s < d → j < (d - s - 1) / k + 1 → s + j * k < d
@@ -87,7 +87,7 @@ quotient-over s k d hk hs =
     omega (arith, lt-div-mul-add {a = d - s - 1} {b = k} hk)
 
 -- n days that all lie before e
-pub whole-ticks : (s k n e : ℕ) → ((j : ℕ) → j < n → s + j * k < e) → before e (ticks s k n) ≡ ticks s k n
+whole-ticks : (s k n e : ℕ) → ((j : ℕ) → j < n → s + j * k < e) → before e (ticks s k n) ≡ ticks s k n
 whole-ticks s k n e u = before-ticks s k n n e (record { within = omega arith; under = u; over = λ h. absurd (omega arith) })
 
 -- of n days m lie before d and e
@@ -95,10 +95,10 @@ module _ (s k n e d m : ℕ) (c : Cut s k n m (min d e)) where
   early : (j : ℕ) → j < m → s + j * k < e
   early j l = omega (arith, c .under j l)
 
-  pub head-days : before e (ticks s k m) ≡ before d (before e (ticks s k n))
+  head-days : before e (ticks s k m) ≡ before d (before e (ticks s k n))
   head-days = whole-ticks s k m e early ∙ sym (before-both d e (ticks s k n) ∙ before-ticks s k n m (min d e) c)
 
-  pub head-count : m ≡ length (before e (ticks s k m))
+  head-count : m ≡ length (before e (ticks s k m))
   head-count = sym (ap length (whole-ticks s k m e early) ∙ length-ticks s k m)
 
 -- of n days h lie before e, and m before d and e
@@ -117,7 +117,7 @@ module _ (s k n e d h m : ℕ) (b : Cut s k n h e) (c : Cut s k n m (min d e)) w
   left = ap (since d) (before-ticks s k n h e b) ∙ since-ticks s k h m d inner
 
   -- the first day at or after d
-  pub first-left : firstFrom d (before e (ticks s k n)) ≡ headOf (ticks (s + m * k) k (h - m))
+  first-left : firstFrom d (before e (ticks s k n)) ≡ headOf (ticks (s + m * k) k (h - m))
   first-left = ap headOf left
 
   whole : before e (ticks (s + m * k) k (h - m)) ≡ ticks (s + m * k) k (h - m)
@@ -125,11 +125,28 @@ module _ (s k n e d h m : ℕ) (b : Cut s k n h e) (c : Cut s k n m (min d e)) w
       whole-ticks (s + m * k) k (h - m) e
       (λ j l. let u : s + (m + j) * k < e = b .under (m + j) (omega (arith, fewer)) in omega (arith, add-mul m j k))
 
-  pub tail-days : before e (ticks (s + m * k) k (h - m)) ≡ since d (before e (ticks s k n))
+  tail-days : before e (ticks (s + m * k) k (h - m)) ≡ since d (before e (ticks s k n))
   tail-days = whole ∙ sym left
 
-  pub tail-count : h - m ≡ length (before e (ticks (s + m * k) k (h - m)))
+  tail-count : h - m ≡ length (before e (ticks (s + m * k) k (h - m)))
   tail-count = sym (ap length whole ∙ length-ticks (s + m * k) k (h - m))
 
-  pub tail-none : h ≤ m → [] ≡ since d (before e (ticks s k n))
+  tail-none : h ≤ m → [] ≡ since d (before e (ticks s k n))
   tail-none l = let z : h - m ≡ 0 = omega arith in sym (left ∙ ap (ticks (s + m * k) k) z)
+
+pub placed : (i : Interval) (d m h : ℕ) → Cut (i .start) (i .step) (i .count) h 109573 → Cut (i .start) (i .step) (i .count) m (min d 109573) → Placed i d m h
+placed i d m h b c =
+    let s = i .start in
+    let k = i .step in
+    let n = i .count in
+    record {
+      few = b .within;
+      within = fewer s k n 109573 d h m b c;
+      last = λ l. omega (arith, b .under m l);
+      first = first-left s k n 109573 d h m b c ∙ first-ticks (s + m * k) k h m;
+      head = head-days s k n 109573 d m c;
+      head-count = head-count s k n 109573 d m c;
+      tail = tail-days s k n 109573 d h m b c;
+      tail-count = tail-count s k n 109573 d h m b c;
+      none = tail-none s k n 109573 d h m b c;
+    }

@@ -1,11 +1,14 @@
 -- The days of an interval.
-use mathlib.Core.Bool.{Bool, _&&_}
+use mathlib.Core.Bool.{Bool, cond, _&&_}
+use mathlib.Core.Path.{_≡_}
 use mathlib.Core.List.{List, [], _∷_}
-use Prim.Native.Nat.{ℕ, zero, suc, _+_, _*_, _<_, _≤_}
-use lib.Dec.{leb}
+use Prim.Native.Nat.{ℕ, zero, suc, _+_, _-_, _*_, _<_, _≤_}
+use lib.Dec.{leb, ltb}
+use lib.ListN.{length}
+use Rattle.std.specs.declared.option.Option.the-variants.{None, Some}
 use Rattle.calendar.specs.Years.{lastDay}
 use Rattle.source.specs.declared.intervals.Interval.{Interval}
-use Rattle.source.specs.Days.{before}
+use Rattle.source.specs.Days.{before, since, firstFrom}
 
 -- the numbers that an interval may be made of
 abbrev pub inBounds : ℕ → ℕ → ℕ → Bool
@@ -25,3 +28,15 @@ pub record Cut (start step n m d : ℕ) : Type 0 where
   pub within : m ≤ n
   pub under : (j : ℕ) → j < m → start + j * step < d
   pub over : m < n → d ≤ start + m * step
+
+-- of the days of an interval low lie before d, and there are high in all
+pub record Placed (i : Interval) (d low high : ℕ) : Type 0 where
+  pub few : high ≤ i .count
+  pub within : low ≤ high
+  pub last : low < high → i .start + low * i .step ≤ lastDay
+  pub first : firstFrom d (intervalDays i) ≡ cond (ltb low high) (Some (i .start + low * i .step)) None
+  pub head : before (lastDay + 1) (ticks (i .start) (i .step) low) ≡ before d (intervalDays i)
+  pub head-count : low ≡ length (before (lastDay + 1) (ticks (i .start) (i .step) low))
+  pub tail : before (lastDay + 1) (ticks (i .start + low * i .step) (i .step) (high - low)) ≡ since d (intervalDays i)
+  pub tail-count : high - low ≡ length (before (lastDay + 1) (ticks (i .start + low * i .step) (i .step) (high - low)))
+  pub none : high ≤ low → [] ≡ since d (intervalDays i)

@@ -9,7 +9,7 @@ ghost use Rattle.std.specs.shelf.Lists.{All};
 ghost use Rattle.calendar.specs.Years.{lastDay};
 ghost use Rattle.refusal.specs.Numbers.{number};
 ghost use Rattle.source.specs.Days.{Ascending, firstFrom, before, since};
-ghost use Rattle.source.specs.Intervals.{inBounds, intervalDays, Cut};
+ghost use Rattle.source.specs.Intervals.{inBounds, intervalDays, Cut, Placed};
 use crate::intervals::Interval;
 use crate::sources::Source;
 use calendar::days::LAST_DAY;
@@ -40,15 +40,32 @@ impl Interval {
             self.count
         }
     }
+
+    // How many days there are before `day`, and in all: those past the last day do not count.
+    fn places(&self, day: u32) -> Places
+        ensures { λ r. ⌜ Placed (now (self .entry)) day (r .low) (r .high) ⌝ }
+    {
+        Places {
+            low: self.below(day.min(LAST_DAY + 1)),
+            high: self.below(LAST_DAY + 1),
+        }
+    }
+}
+
+// Of so many days the first so many lie before a number.
+#[derive(Clone, Copy)]
+struct Places {
+    low: u32,
+    high: u32,
 }
 
 pub impl Source for Interval as IntervalSource {
     ghost days = { intervalDays };
 
     fn first_at(&self, day: u32) -> Option<u32> {
-        let low = self.below(day.min(LAST_DAY + 1));
-        if low < self.below(LAST_DAY + 1) {
-            Some(self.start + low * self.step)
+        let at = self.places(day);
+        if at.low < at.high {
+            Some(self.start + at.low * self.step)
         } else {
             None
         }
@@ -59,11 +76,11 @@ pub impl Source for Interval as IntervalSource {
         ensures count { λ r. ⌜ r .count ≡ length (intervalDays r) ⌝ }
         ensures same { λ r. ⌜ (r .start ≡ now (self .entry) .start) × (r .step ≡ now (self .entry) .step) ⌝ }
     {
-        let count = self.below(day.min(LAST_DAY + 1));
+        let at = self.places(day);
         Interval {
             start: self.start,
             step: self.step,
-            count,
+            count: at.low,
         }
     }
 
@@ -72,19 +89,18 @@ pub impl Source for Interval as IntervalSource {
         ensures count { λ r. ⌜ r .count ≡ length (intervalDays r) ⌝ }
         ensures same { λ r. ⌜ (r .count ≡ 0 → r .start ≡ now (self .entry) .start) × (r .step ≡ now (self .entry) .step) ⌝ }
     {
-        let low = self.below(day.min(LAST_DAY + 1));
-        let high = self.below(LAST_DAY + 1);
-        if low >= high {
+        let at = self.places(day);
+        if at.low < at.high {
             return Interval {
-                start: self.start,
+                start: self.start + at.low * self.step,
                 step: self.step,
-                count: 0,
+                count: at.high - at.low,
             };
         }
         Interval {
-            start: self.start + low * self.step,
+            start: self.start,
             step: self.step,
-            count: high - low,
+            count: 0,
         }
     }
 }
