@@ -3,6 +3,7 @@ ghost use mathlib.Core.Path.{_≡_};
 ghost use Prim.Native.Nat.{ℕ, _+_, _<_, _≤_};
 ghost use Rattle.std.specs.Results.{Cases};
 ghost use Rattle.notation.specs.Intervals.{repeatNamed, periodNamed, intervalNamed};
+ghost use Rattle.notation.specs.Spelling.{Spelling};
 use crate::dates::read_moment;
 use crate::digits::number_of;
 use crate::fields::cut;
@@ -52,11 +53,18 @@ fn read_period(octets: &[u8]) -> Result<u32, Refusal>
     }
 }
 
+// That a text is read as an interval just where it spells one.
+fn spellings()
+    ensures { λ _. ⌜ Spelling ⌝ }
+{}
+
 // The parts of Rn/yyyymmddThhmm00/PmD: first the form of all, then whether there is such a start.
 pub fn read_interval(octets: &[u8]) -> Result<Spelled, Refusal>
     ensures value { λ r. ⌜ r ≡ intervalNamed (now (octets .entry)) ⌝ }
     ensures bound { λ r. ⌜ Cases r (λ s. s .start .clock < 1440) (λ _. Unit {0}) ⌝ }
+    ensures spelled { λ _. ⌜ Spelling ⌝ }
 {
+    spellings();
     let Some((repeat, rest)) = cut(octets, '/') else {
         return Err(Refusal::Malformed);
     };
