@@ -19,7 +19,7 @@ use refusal::Refusal;
 use series::records::Series;
 
 // The job of six words: the first word that is refused decides, and then whether the days are in order.
-pub fn read_words(
+fn read_words(
     uid: &[u8],
     interval: &[u8],
     duration: &[u8],

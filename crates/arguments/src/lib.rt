@@ -3,5 +3,5 @@ pub mod faults;
 pub mod job;
 pub mod jobs;
 pub mod prints;
-pub mod timed;
-pub mod words;
+mod timed;
+mod words;

@@ -24,7 +24,7 @@ use series::uids::Uid;
 use source::intervals::Interval;
 
 // Whether there are six words.
-pub fn check_count(count: usize) -> Result<(), Fault>
+pub(crate) fn check_count(count: usize) -> Result<(), Fault>
     ensures { λ r. ⌜ Cases r (λ _. countFault count ≡ None) (λ f. countFault count ≡ Some (told f)) ⌝ }
 {
     match count {
@@ -39,7 +39,7 @@ pub fn check_count(count: usize) -> Result<(), Fault>
     }
 }
 
-pub fn read_uid(word: &[u8]) -> Result<Uid, Fault>
+pub(crate) fn read_uid(word: &[u8]) -> Result<Uid, Fault>
     ensures { λ r. ⌜ Cases r (λ u. (uidFault (now (word .entry)) ≡ None) × (uidOctets u ≡ now (word .entry))) (λ f. uidFault (now (word .entry)) ≡ Some (told f)) ⌝ }
 {
     match Uid::new(word) {
@@ -48,7 +48,7 @@ pub fn read_uid(word: &[u8]) -> Result<Uid, Fault>
     }
 }
 
-pub fn read_text(word: &[u8]) -> Result<Text, Fault>
+pub(crate) fn read_text(word: &[u8]) -> Result<Text, Fault>
     ensures { λ r. ⌜ Cases r (λ t. (textFault (now (word .entry)) ≡ None) × (textOctets t ≡ now (word .entry))) (λ f. textFault (now (word .entry)) ≡ Some (told f)) ⌝ }
 {
     match Text::new(word) {
@@ -57,7 +57,7 @@ pub fn read_text(word: &[u8]) -> Result<Text, Fault>
     }
 }
 
-pub fn read_timing(word: &[u8]) -> Result<Timed, Fault>
+pub(crate) fn read_timing(word: &[u8]) -> Result<Timed, Fault>
     ensures { λ r. ⌜ Cases r (λ t. (intervalFault (now (word .entry)) ≡ None) × (intervalNamed (now (word .entry)) ≡ Ok (spelled t))) (λ f. intervalFault (now (word .entry)) ≡ Some (told f)) ⌝ }
 {
     let spelled = match read_interval(word) {
@@ -74,7 +74,7 @@ pub fn read_timing(word: &[u8]) -> Result<Timed, Fault>
     }
 }
 
-pub fn read_duration(word: &[u8]) -> Result<Duration, Fault>
+pub(crate) fn read_duration(word: &[u8]) -> Result<Duration, Fault>
     ensures { λ r. ⌜ Cases r (λ d. (durationFault (now (word .entry)) ≡ None) × (number (now (word .entry)) ≡ Ok (d .minutes))) (λ f. durationFault (now (word .entry)) ≡ Some (told f)) ⌝ }
 {
     let minutes = match number_of(word) {
@@ -87,7 +87,7 @@ pub fn read_duration(word: &[u8]) -> Result<Duration, Fault>
     }
 }
 
-pub fn read_date(word: &[u8], argument: Argument) -> Result<u32, Fault>
+pub(crate) fn read_date(word: &[u8], argument: Argument) -> Result<u32, Fault>
     ensures { λ r. ⌜ Cases r (λ d. (dayFault argument (now (word .entry)) ≡ None) × (dayNamed (now (word .entry)) ≡ Ok d) × (d ≤ lastDay)) (λ f. dayFault argument (now (word .entry)) ≡ Some (told f)) ⌝ }
 {
     match read_day(word) {

@@ -5,7 +5,6 @@ use arguments::faults::ArgumentPartialEq;
 use arguments::faults::Fault;
 use arguments::faults::FaultDisplay;
 use arguments::jobs::read;
-use arguments::jobs::read_words;
 use refusal::Refusal;
 use std::test::*;
 
@@ -18,15 +17,15 @@ fn at<'a>(place: usize, here: usize, word: &'a [u8], usual: &'a [u8]) -> &'a [u8
 
 // The number of the refusal of a command line with this word at a place, or 0 where it is taken.
 fn judged(place: usize, word: &[u8]) -> u8 {
-    let answer = read_words(
+    let words = [
         at(place, 0, word, b"evensong"),
         at(place, 1, word, b"R3/20240107T183000/P14D"),
         at(place, 2, word, b"45"),
         at(place, 3, word, b"Evensong"),
         at(place, 4, word, b"20240101"),
         at(place, 5, word, b"20240204"),
-    );
-    match answer {
+    ];
+    match read(&words) {
         Ok(_) => 0,
         Err(Fault::Refused(_, refusal)) => refusal.number(),
         Err(_) => 99,
@@ -120,7 +119,9 @@ fn too_few_words() -> Result<(), Fail> {
 fn messages(rt: LibcRuntime) -> Result<(), Fail> {
     let fault = Fault::Refused(Argument::Duration, Refusal::OutOfBounds);
     let text = format!(rt.alloc(), "{fault}")?;
-    check(text.as_str() == "the duration is out of bounds: 0 to 1440 minutes, in one to five digits")?;
+    check(
+        text.as_str() == "the duration is out of bounds: 0 to 1440 minutes, in one to five digits",
+    )?;
     let missing = Fault::Missing(Argument::First);
     let other = format!(rt.alloc(), "{missing}")?;
     check(other.as_str() == "the first day is missing: yyyymmdd, a date from 19000101 to 21991231")

@@ -23,12 +23,24 @@ fn evensong() -> Result<Series<Interval>, Refusal> {
 }
 
 // What the agenda of a window answers on a page of so many octets, and the length that it leaves.
-fn asked(from: u32, end: u32, room: usize, start: usize) -> Result<(Result<usize, Refusal>, usize), Refusal> {
+fn asked(
+    from: u32,
+    end: u32,
+    room: usize,
+    start: usize,
+) -> Result<(Result<usize, Refusal>, usize), Refusal> {
     let series = evensong()?;
     let uid = Uid::new(b"e")?;
     let mut octets = [b'.'; 100];
     let mut len = start;
-    let answer = agenda(&uid, &series, from, end, &mut octets[0..room.min(100)], &mut len);
+    let answer = agenda(
+        &uid,
+        &series,
+        from,
+        end,
+        &mut octets[0..room.min(100)],
+        &mut len,
+    );
     Ok((answer, len))
 }
 
@@ -58,5 +70,8 @@ fn a_page_that_is_too_short() -> Result<(), Fail> {
     check_eq(asked(0, 157_785_120, 84, 0)?, (Ok(3), 84))?;
     check_eq(asked(0, 157_785_120, 83, 0)?, (Err(Refusal::PageFull), 0))?;
     check_eq(asked(0, 157_785_120, 100, 16)?, (Ok(3), 100))?;
-    check_eq(asked(0, 157_785_120, 100, 17)?, (Err(Refusal::PageFull), 17))
+    check_eq(
+        asked(0, 157_785_120, 100, 17)?,
+        (Err(Refusal::PageFull), 17),
+    )
 }

@@ -68,7 +68,10 @@ fn a_line_that_just_fits() -> Result<(), Fail> {
         Err(Refusal::PageFull),
     )?;
     check_eq(len, 0)?;
-    check_eq(put_line(&mut octets, &mut len, DAY, 1110, 45, b"e", b"Eve"), Ok(()))?;
+    check_eq(
+        put_line(&mut octets, &mut len, DAY, 1110, 45, b"e", b"Eve"),
+        Ok(()),
+    )?;
     check_eq(len, 23)?;
     check_eq(octets, *b"20240107,1830,45,e,Eve\n")
 }
