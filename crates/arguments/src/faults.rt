@@ -57,6 +57,9 @@ fn reason(refusal: Refusal) -> &'static str {
     match refusal {
         Refusal::Malformed => "is malformed",
         Refusal::OutOfBounds => "is out of bounds",
+        Refusal::BadPart => "has a part that is unknown, repeated or malformed, or no FREQ",
+        Refusal::RuleConflict => "has parts that may not stand together",
+        Refusal::StartNotPicked => "does not pick its start",
         Refusal::PageFull => "does not fit the page",
         Refusal::BadWindow => "lies before the first day",
     }

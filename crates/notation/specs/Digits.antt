@@ -1,7 +1,7 @@
 -- The numbers that digits write.
 use mathlib.Core.Bool.{Bool, true, cond, _&&_}
 use mathlib.Core.List.{List, [], _∷_}
-use Prim.Native.Nat.{ℕ, _+_, _-_, _*_}
+use Prim.Native.Nat.{ℕ, _+_, _-_, _*_, min}
 use lib.Dec.{leb}
 use lib.ListN.{length}
 use Rattle.std.specs.declared.option.Option.{Option}
@@ -33,3 +33,7 @@ numeral least most xs = cond (isNumeral least most xs) (Some (valueFrom 0 xs)) N
 -- a number of one to five digits
 abbrev pub number : List ℕ → Result ℕ Refusal
 number xs = formed (numeral 1 5 xs)
+
+-- one or more digits; a number past every bound is as good as any other such
+abbrev pub capped : List ℕ → Option ℕ
+capped xs = cond (leb 1 (length xs) && allDigits xs) (Some (min (valueFrom 0 xs) 100000)) None

@@ -3,7 +3,7 @@ ghost use mathlib.Core.Path.{_≡_};
 ghost use Prim.Native.Nat.{ℕ, _+_, _*_, _<_, _≤_, _^_};
 ghost use lib.ListN.{length};
 ghost use Rattle.std.specs.Options.{Cases as BySome};
-ghost use Rattle.notation.specs.Digits.{isDigit, numeral, number};
+ghost use Rattle.notation.specs.Digits.{isDigit, numeral, number, capped};
 use refusal::Refusal;
 
 fn is_digit(octet: u8) -> bool
@@ -13,7 +13,7 @@ fn is_digit(octet: u8) -> bool
 }
 
 // The number that so many digits write, or none where they are too few, too many or no digits.
-pub(crate) fn numeral_of(octets: &[u8], least: usize, most: usize) -> Option<u32>
+pub fn numeral_of(octets: &[u8], least: usize, most: usize) -> Option<u32>
     requires { ⌜ most ≤ 9 ⌝ }
     ensures value { λ r. ⌜ r ≡ numeral least most (now (octets .entry)) ⌝ }
     ensures bound { λ r. ⌜ BySome r (Unit {0}) (λ n. n < 10 ^ most) ⌝ }
@@ -39,4 +39,21 @@ pub fn number_of(octets: &[u8]) -> Result<u32, Refusal>
         return Err(Refusal::Malformed);
     };
     Ok(value)
+}
+
+// The number that one or more digits write, or the cap where it is larger.
+pub fn capped_of(octets: &[u8]) -> Option<u32>
+    ensures { λ r. ⌜ r ≡ capped (now (octets .entry)) ⌝ }
+{
+    if octets.is_empty() {
+        return None;
+    }
+    let mut value: u32 = 0;
+    for x in octets {
+        if !is_digit(*x) {
+            return None;
+        }
+        value = (value * 10 + (*x - b'0') as u32).min(100_000);
+    }
+    Some(value)
 }

@@ -8,7 +8,7 @@ ghost use Rattle.std.specs.declared.option.Option.the-variants.{Some, None};
 ghost use Rattle.notation.specs.Fields.{cutAt};
 
 // What stands before and behind the first such character, or none where there is no such one.
-pub(crate) fn cut(octets: &[u8], mark: char) -> Option<(&[u8], &[u8])>
+pub fn cut(octets: &[u8], mark: char) -> Option<(&[u8], &[u8])>
     ensures { λ r. ⌜ BySome r (cutAt mark (now (octets .entry)) ≡ None) (λ p. cutAt mark (now (octets .entry)) ≡ Some (now (p .0), now (p .1))) ⌝ }
 {
     for (i, x) in octets.iter().enumerate() {
@@ -20,7 +20,7 @@ pub(crate) fn cut(octets: &[u8], mark: char) -> Option<(&[u8], &[u8])>
 }
 
 // The first character and the rest, or none where there is no character.
-pub(crate) fn first_rest(octets: &[u8]) -> Option<(char, &[u8])>
+pub fn first_rest(octets: &[u8]) -> Option<(char, &[u8])>
     ensures { λ r. ⌜ BySome r (now (octets .entry) ≡ []) (λ p. now (octets .entry) ≡ p .0 ∷ now (p .1)) ⌝ }
 {
     if octets.is_empty() {

@@ -10,6 +10,12 @@ pub enum Refusal {
     Malformed,
     // a value is out of bounds
     OutOfBounds,
+    // a part of a rule is unknown, repeated or malformed, or FREQ is absent
+    BadPart,
+    // parts of a rule that may not stand together
+    RuleConflict,
+    // the start of a rule is not among its days
+    StartNotPicked,
     // the page has no room left, or its length lies past its end
     PageFull,
     // a window ends before it begins, or past the last start
@@ -25,6 +31,9 @@ impl Refusal {
         match self {
             Refusal::Malformed => 7,
             Refusal::OutOfBounds => 8,
+            Refusal::BadPart => 9,
+            Refusal::RuleConflict => 10,
+            Refusal::StartNotPicked => 11,
             Refusal::PageFull => 23,
             Refusal::BadWindow => 24,
         }

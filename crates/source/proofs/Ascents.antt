@@ -1,7 +1,7 @@
 -- Ascending lists: what follows the first day from a number on.
 use mathlib.Core.Path.{_≡_, refl, sym, ap, subst, _∙_}
 use mathlib.Core.Bool.{Bool, true, false, cond}
-use mathlib.Core.List.{List, [], _∷_}
+use mathlib.Core.List.{List, [], _∷_, _++_}
 use mathlib.Core.Logic.{⊎-elim}
 use Prim.Native.Nat.{ℕ, _+_, _≤_, _<_, min}
 use native.Mathlib.Omega.{arith}
@@ -13,7 +13,7 @@ use Rattle.std.proofs.shelf.Elements.{all-weaker, all-kept-by, kept-by-passes}
 use Rattle.std.proofs.shelf.Tests.{cases-bool, cases-lt, le-leb, lt-leb, lt-ltb, le-ltb, leb-true}
 use Rattle.std.proofs.shelf.Ways.{leb-tells}
 use Rattle.source.specs.Days.{Ascending, before, since, headOf, firstFrom}
-use Rattle.source.proofs.Kept.{kept-all}
+use Rattle.source.proofs.Kept.{kept-all, kept-none}
 
 pub kept-ascends : (p : ℕ → Bool) (xs : List ℕ) → Ascending xs → Ascending (kept-by p xs)
 kept-ascends p [] a = tt
@@ -23,6 +23,25 @@ kept-ascends p (x ∷ xs) a =
 -- a list that begins at or after d is all from d on
 pub since-whole : (d : ℕ) (xs : List ℕ) → All (λ x. d ≤ x) xs → since d xs ≡ xs
 since-whole d xs a = kept-all (λ x. leb d x) xs (all-weaker (λ x. d ≤ x) (λ x. leb d x ≡ true) (λ x h. le-leb d x h) xs a)
+
+-- and has none before d
+pub before-none : (d : ℕ) (xs : List ℕ) → All (λ x. d ≤ x) xs → before d xs ≡ []
+before-none d xs a = kept-none (λ x. ltb x d) xs (all-weaker (λ x. d ≤ x) (λ x. ltb x d ≡ false) (λ x h. le-ltb x d h) xs a)
+
+-- an ascending list begins with its first day
+pub from-first : (d x : ℕ) (xs : List ℕ) → Ascending (x ∷ xs) → d ≤ x → All (λ y. d ≤ y) (x ∷ xs)
+from-first d x xs a l = (l, all-weaker (λ y. x < y) (λ y. d ≤ y) (λ y h. omega arith) xs (a .0))
+
+-- the days before d and those from d on are all days
+pub before-since : (d : ℕ) (xs : List ℕ) → Ascending xs → before d xs ++ since d xs ≡ xs
+before-since d [] a = refl
+before-since d (x ∷ xs) a =
+    ⊎-elim
+    (λ (l : x < d). rw (lt-ltb x d l, lt-leb d x l) (ap (λ ys. x ∷ ys) (before-since d xs (a .1))))
+    (λ (l : d ≤ x).
+    let from = from-first d x xs a l in
+    ap (λ ys. ys ++ since d (x ∷ xs)) (before-none d (x ∷ xs) from) ∙ since-whole d (x ∷ xs) from)
+    (cases-lt x d)
 
 -- the days before d of those before e are the days before both
 pub before-both : (d e : ℕ) (xs : List ℕ) → before d (before e xs) ≡ before (min d e) xs

@@ -16,8 +16,7 @@ use Rattle.std.proofs.shelf.Tests.{cases-lt, lt-ltb, le-ltb, lt-leb}
 use Rattle.source.specs.Days.{Ascending, firstFrom, before, since, headOf}
 use Rattle.source.specs.declared.intervals.Interval.{Interval}
 use Rattle.source.specs.Intervals.{ticks, Cut, Placed}
-use Rattle.source.proofs.Kept.{kept-none}
-use Rattle.source.proofs.Ascents.{before-both, since-whole}
+use Rattle.source.proofs.Ascents.{before-both, before-none, since-whole}
 
 ticks-from : (s k n a : ℕ) → a ≤ s → All (λ x. a ≤ x) (ticks s k n)
 ticks-from s k zero a h = tt
@@ -48,8 +47,7 @@ next-cut {s} {k} {n} {m} {d} c = record {
 before-ticks : (s k n m d : ℕ) → Cut s k n m d → before d (ticks s k n) ≡ ticks s k m
 before-ticks s k zero zero d c = refl
 before-ticks s k zero (suc m) d c = absurd (let h = c .within in omega arith)
-before-ticks s k (suc n) zero d c =
-    kept-none (λ x. ltb x d) (ticks s k (suc n)) (all-weaker (λ x. d ≤ x) (λ x. ltb x d ≡ false) (λ x h. le-ltb x d h) (ticks s k (suc n)) (ticks-from s k (suc n) d (first-over c)))
+before-ticks s k (suc n) zero d c = before-none d (ticks s k (suc n)) (ticks-from s k (suc n) d (first-over c))
 before-ticks s k (suc n) (suc m) d c = rw (lt-ltb s d (first-under c)) (ap (λ xs. s ∷ xs) (before-ticks (s + k) k n m d (next-cut c)))
 
 since-ticks : (s k n m d : ℕ) → Cut s k n m d → since d (ticks s k n) ≡ ticks (s + m * k) k (n - m)

@@ -1,7 +1,8 @@
 -- Ascending lists of days, and their parts before and from a day on.
+use mathlib.Core.Bool.{Bool, false, _||_}
 use mathlib.Core.List.{List, [], _∷_}
 use Prim.Native.Nat.{ℕ, _<_}
-use lib.Dec.{leb, ltb}
+use lib.Dec.{leb, ltb, eqb}
 use Rattle.std.specs.shelf.Lists.{All, kept-by}
 use Rattle.std.specs.declared.option.Option.{Option}
 use Rattle.std.specs.declared.option.Option.the-variants.{None, Some}
@@ -26,3 +27,8 @@ headOf (x ∷ xs) = Some x
 -- the first day at or after d
 abbrev pub firstFrom : ℕ → List ℕ → Option ℕ
 firstFrom d xs = headOf (since d xs)
+
+-- whether d is one of the days
+abbrev pub among : ℕ → List ℕ → Bool
+among d [] = false
+among d (x ∷ xs) = eqb d x || among d xs

@@ -1,2 +1,5 @@
 pub mod Days
 pub mod Intervals
+pub mod Climbs
+pub mod Dates
+pub mod Unions

@@ -1,0 +1,14 @@
+pub mod Spans
+pub mod Entries
+pub mod Openings
+pub mod Periods
+pub mod Strides
+pub mod Ahead
+pub mod Tails
+pub mod Bounds
+pub mod Ends
+pub mod Cuts
+pub mod Refusals
+pub mod Remaking
+pub mod Meanings
+pub mod Weekdays

@@ -1,0 +1,5 @@
+pub mod Words
+pub mod Entries
+pub mod Lists
+pub mod Parts
+pub mod Reading

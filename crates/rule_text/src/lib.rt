@@ -1,0 +1,7 @@
+// The text of a recurrence rule, read and written.
+mod entries;
+mod lists;
+mod part_texts;
+mod parts;
+pub mod reading;
+mod words;
