@@ -8,14 +8,14 @@ use std::error::AnyError;
 use std::io::Write;
 use std::rt::Env;
 
-// One word more than there are arguments, so that a surplus is seen.
-const WORDS: usize = 7;
+// One word more than there may be arguments, so that a surplus is seen.
+const WORDS: usize = 8;
 
-// Longer than any argument may be; of a longer word this much is enough to refuse it.
-const WORD_OCTETS: usize = 128;
+// Longer than any argument but a rule with needless zeros; a longer word is refused.
+const WORD_OCTETS: usize = 512;
 
-// Room for the longest agenda: 10,000 lines of at most 145 octets, and the summary.
-const PAGE_OCTETS: usize = 1_450_100;
+// Room for the longest agenda: a line of at most 145 octets for each day there is, and the summary.
+const PAGE_OCTETS: usize = 15_888_200;
 
 // The words behind the program's name, as octets.
 fn words(rt: &LibcRuntime) -> Result<Vec<Vec<u8>>, AllocError> {
@@ -25,7 +25,8 @@ fn words(rt: &LibcRuntime) -> Result<Vec<Vec<u8>>, AllocError> {
         let mut word = vec![in heap; 0u8; WORD_OCTETS]?;
         match rt.arg(i, word.as_mut_slice()) {
             Ok(len) => word.truncate(len),
-            Err(Unfilled::TooLong) => {}
+            // refused in every place as an empty word
+            Err(Unfilled::TooLong) => word.truncate(0),
             Err(Unfilled::NotPresent) => break,
         }
         all.push(word)?;
@@ -40,8 +41,8 @@ fn run(rt: &LibcRuntime) -> Result<(), AnyError> {
     for word in &all {
         octets.push(word.as_slice())?;
     }
-    let job = match read(octets.as_slice()) {
-        Ok(job) => job,
+    let command = match read(octets.as_slice()) {
+        Ok(command) => command,
         Err(fault) => {
             eprintln!(rt, "agenda: {fault}")?;
             return Err("the arguments are refused".into());
@@ -49,7 +50,7 @@ fn run(rt: &LibcRuntime) -> Result<(), AnyError> {
     };
     let mut page = vec![in heap; 0u8; PAGE_OCTETS]?;
     let mut len = 0;
-    match print(&job, page.as_mut_slice(), &mut len) {
+    match print(&command, page.as_mut_slice(), &mut len) {
         Ok(_) => {
             rt.stdout().write_all(&page[0..len])?;
             Ok(())

@@ -2,11 +2,13 @@
 use refusal::Refusal;
 use std::fmt;
 
-// The arguments, in their order.
+// The arguments. An interval stands alone, or a start and a rule in its place.
 #[derive(Clone, Copy, PartialEq, Eq, Debug)]
 pub enum Argument {
     Uid,
     Interval,
+    Start,
+    Rule,
     Duration,
     Text,
     First,
@@ -17,7 +19,7 @@ pub enum Argument {
 pub enum Fault {
     // fewer than six arguments: the first that is absent
     Missing(Argument),
-    // more than six arguments
+    // more than seven arguments
     Surplus,
     // an argument that has not its form, is out of bounds, or ends the window before it begins
     Refused(Argument, Refusal),
@@ -28,6 +30,8 @@ impl Argument {
         match self {
             Argument::Uid => "UID",
             Argument::Interval => "interval",
+            Argument::Start => "start",
+            Argument::Rule => "rule",
             Argument::Duration => "duration",
             Argument::Text => "text",
             Argument::First => "first day",
@@ -42,6 +46,12 @@ impl Argument {
             }
             Argument::Interval => {
                 "Rn/yyyymmddThhmm00/PmD, n from 1 to 10000, m from 1 to 999, a date from 19000101 to 21991231 and a time from 0000 to 2359"
+            }
+            Argument::Start => {
+                "yyyymmddThhmm00, a date from 19000101 to 21991231 and a time from 0000 to 2359"
+            }
+            Argument::Rule => {
+                "FREQ=DAILY, WEEKLY, MONTHLY or YEARLY, and if wanted INTERVAL (1 to 999), WKST, COUNT (1 to 10000) or UNTIL, BYMONTH (1 to 12), BYMONTHDAY (1 to 31 or -1 to -31; not in WEEKLY) and BYDAY (weekdays; ordinals 1 to 53 or -1 to -53 only in MONTHLY and YEARLY), parted by semicolons, each list of at most 12; the start is its first day"
             }
             Argument::Duration => "0 to 1440 minutes, in one to five digits",
             Argument::Text => "1 to 60 octets, each from 32 to 126 or from 128 to 255",
@@ -75,7 +85,7 @@ pub impl fmt::Display for Fault as FaultDisplay {
             }
             Fault::Surplus => write!(
                 f,
-                "more than six arguments: UID, interval, duration, text, first day, last day; a text with spaces stands in quotes"
+                "too many arguments: UID, interval (or start and rule), duration, text, first day, last day; a text with spaces stands in quotes"
             ),
             Fault::Refused(argument, refusal) => {
                 let name = argument.name();

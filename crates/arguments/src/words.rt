@@ -7,23 +7,30 @@ ghost use Rattle.std.specs.declared.result.Result.the-variants.{Ok};
 ghost use Rattle.notation.specs.Digits.{number};
 ghost use Rattle.arguments.specs.Words.{spelled};
 ghost use Rattle.notation.specs.Intervals.{intervalNamed};
-ghost use Rattle.notation.specs.Dates.{dayNamed};
+ghost use Rattle.notation.specs.Dates.{dayNamed, momentNamed};
+ghost use Rattle.rule_text.specs.Reading.{recurrenceNamed, RuleOf};
 ghost use Rattle.series.specs.Values.{textOctets, uidOctets};
 ghost use Rattle.calendar.specs.Years.{lastDay};
-ghost use Rattle.arguments.specs.Faults.{told, countFault, uidFault, textFault, intervalFault, durationFault, dayFault};
+ghost use Rattle.arguments.specs.Faults.{told, countFault, uidFault, textFault, intervalFault, startFault, ruleFault, durationFault, dayFault, daysFault};
 use crate::faults::Argument;
 use crate::faults::Fault;
+use crate::job::Window;
 use crate::timed::Timed;
+use calendar::starts::Moment;
 use notation::dates::read_day;
+use notation::dates::read_moment;
 use notation::digits::number_of;
 use notation::intervals::read_interval;
+use refusal::Refusal;
+use rule::rules::Rule;
+use rule_text::reading::read_rule;
 use series::clocks::Clock;
 use series::durations::Duration;
 use series::texts::Text;
 use series::uids::Uid;
 use source::intervals::Interval;
 
-// Whether there are six words.
+// Whether there are six or seven words.
 pub(crate) fn check_count(count: usize) -> Result<(), Fault>
     ensures { λ r. ⌜ Cases r (λ _. countFault count ≡ None) (λ f. countFault count ≡ Some (told f)) ⌝ }
 {
@@ -34,7 +41,7 @@ pub(crate) fn check_count(count: usize) -> Result<(), Fault>
         3 => Err(Fault::Missing(Argument::Text)),
         4 => Err(Fault::Missing(Argument::First)),
         5 => Err(Fault::Missing(Argument::Last)),
-        6 => Ok(()),
+        6 | 7 => Ok(()),
         _ => Err(Fault::Surplus),
     }
 }
@@ -94,4 +101,35 @@ pub(crate) fn read_date(word: &[u8], argument: Argument) -> Result<u32, Fault>
         Ok(day) => Ok(day),
         Err(refusal) => Err(Fault::Refused(argument, refusal)),
     }
+}
+
+pub(crate) fn read_start(word: &[u8]) -> Result<Moment, Fault>
+    ensures value { λ r. ⌜ Cases r (λ m. (startFault (now (word .entry)) ≡ None) × (momentNamed (now (word .entry)) ≡ Ok m)) (λ f. startFault (now (word .entry)) ≡ Some (told f)) ⌝ }
+    ensures bound { λ r. ⌜ Cases r (λ m. m .clock < 1440) (λ _. Unit {0}) ⌝ }
+{
+    match read_moment(word) {
+        Ok(start) => Ok(start),
+        Err(refusal) => Err(Fault::Refused(Argument::Start, refusal)),
+    }
+}
+
+pub(crate) fn read_recurring(word: &[u8], start: Moment) -> Result<Rule, Fault>
+    ensures { λ r. ⌜ Cases r (λ rule. (ruleFault start (now (word .entry)) ≡ None) × RuleOf (start .day) (recurrenceNamed (start .clock) (now (word .entry))) rule) (λ f. ruleFault start (now (word .entry)) ≡ Some (told f)) ⌝ }
+{
+    match read_rule(word, start) {
+        Ok(rule) => Ok(rule),
+        Err(refusal) => Err(Fault::Refused(Argument::Rule, refusal)),
+    }
+}
+
+// The window of two days, or the refusal where they are not in order.
+pub(crate) fn read_window(first: &[u8], last: &[u8]) -> Result<Window, Fault>
+    ensures { λ r. ⌜ Cases r (λ w. (daysFault (now (first .entry)) (now (last .entry)) ≡ None) × (dayNamed (now (first .entry)) ≡ Ok (w .first)) × (dayNamed (now (last .entry)) ≡ Ok (w .last))) (λ f. daysFault (now (first .entry)) (now (last .entry)) ≡ Some (told f)) ⌝ }
+{
+    let first = read_date(first, Argument::First)?;
+    let last = read_date(last, Argument::Last)?;
+    if first > last {
+        return Err(Fault::Refused(Argument::Last, Refusal::BadWindow));
+    }
+    Ok(Window { first, last })
 }

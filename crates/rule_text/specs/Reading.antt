@@ -1,6 +1,7 @@
 -- A recurrence from the text of a rule.
 use mathlib.Core.Bool.{cond}
 use mathlib.Core.List.{List, [], _∷_}
+use mathlib.Core.Path.{_≡_}
 use Prim.Native.Nat.{ℕ, _+_, min}
 use lib.Dec.{ltb}
 use lib.ListN.{replicate}
@@ -19,6 +20,8 @@ use Rattle.rule.specs.declared.parts.Few.{Few}
 use Rattle.rule.specs.declared.parts.Frequency.{Frequency}
 use Rattle.rule.specs.declared.parts.MonthDay.the-variants as monthDays
 use Rattle.rule.specs.declared.parts.Recurrence.{Recurrence}
+use Rattle.rule.specs.declared.rules.Rule.{Rule}
+use Rattle.rule.specs.Refused.{refusal, Made}
 use Rattle.rule_text.specs.declared.parts.Limit.{Limit}
 use Rattle.rule_text.specs.declared.parts.Limit.the-variants.{At, Nowhere}
 use Rattle.rule_text.specs.declared.parts.Parts.{Parts}
@@ -66,3 +69,17 @@ begun (Some f) clock p = ended f (p .until) clock p
 -- the recurrence that a text names, for a clock
 abbrev pub recurrenceNamed : ℕ → List ℕ → Result Recurrence Refusal
 recurrenceNamed clock xs = andThen (partsRead (fieldsAt 59 xs) noParts) (λ p. begun (p .frequency) clock p)
+
+-- what a start and a text are refused for: first the text, then the rule
+abbrev pub ruleRefused : ℕ → Result Recurrence Refusal → Option Refusal
+ruleRefused day (Ok r) = refusal day (Some r)
+ruleRefused day (Err e) = Some e
+
+-- what a rule has of its start and its text
+abbrev pub RuleOf : ℕ → Result Recurrence Refusal → Rule → Type 0
+RuleOf day (Ok r) rule = Made day (Some r) rule
+RuleOf day (Err e) rule = ⊥
+
+abbrev pub ReadsRule : Moment → List ℕ → Result Rule Refusal → Type 0
+ReadsRule m xs (Ok rule) = (ruleRefused (m .day) (recurrenceNamed (m .clock) xs) ≡ None) × RuleOf (m .day) (recurrenceNamed (m .clock) xs) rule
+ReadsRule m xs (Err e) = ruleRefused (m .day) (recurrenceNamed (m .clock) xs) ≡ Some e

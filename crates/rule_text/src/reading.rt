@@ -3,7 +3,7 @@ ghost use mathlib.Core.Path.{_≡_};
 ghost use Prim.Native.Nat.{ℕ, _+_, _<_, _≤_};
 ghost use lib.ListN.{length};
 ghost use Rattle.rule_text.specs.Lists.{fieldsAt};
-ghost use Rattle.rule_text.specs.Reading.{noParts, partsRead, settledBy, afterLast, recurrenceNamed};
+ghost use Rattle.rule_text.specs.Reading.{noParts, partsRead, settledBy, afterLast, recurrenceNamed, ReadsRule};
 use crate::part_texts::read_part;
 use crate::parts::Limit;
 use crate::parts::Parts;
@@ -18,6 +18,7 @@ use rule::parts::Frequency;
 use rule::parts::MonthDay;
 use rule::parts::Ordinal;
 use rule::parts::Recurrence;
+use rule::rules::Rule;
 
 // All parts of a text.
 fn read_parts(octets: &[u8]) -> Result<Parts, Refusal>
@@ -97,4 +98,12 @@ pub fn read_recurrence(octets: &[u8], clock: u16) -> Result<Recurrence, Refusal>
         }
         Some(Limit::Nowhere) => Err(Refusal::OutOfBounds),
     }
+}
+
+// The rule of a start and a text: what is read, and then what a rule is refused for.
+pub fn read_rule(octets: &[u8], start: Moment) -> Result<Rule, Refusal>
+    ensures { λ r. ⌜ ReadsRule start (now (octets .entry)) r ⌝ }
+{
+    let recurrence = read_recurrence(octets, start.clock)?;
+    Rule::new(start.day, Some(recurrence))
 }
