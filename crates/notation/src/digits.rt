@@ -1,6 +1,6 @@
 // The numbers that digits write.
 ghost use mathlib.Core.Path.{_≡_};
-ghost use Prim.Native.Nat.{ℕ, _+_, _*_, _<_, _≤_, _^_};
+ghost use Prim.Native.Nat.{ℕ, _+_, _*_, _<_, _≤_, _^_, min};
 ghost use lib.ListN.{length};
 ghost use Rattle.std.specs.Options.{Cases as BySome};
 ghost use Rattle.notation.specs.Digits.{isDigit, numeral, number, capped};
@@ -13,7 +13,7 @@ fn is_digit(octet: u8) -> bool
 }
 
 // The number that so many digits write, or none where they are too few, too many or no digits.
-pub fn numeral_of(octets: &[u8], least: usize, most: usize) -> Option<u32>
+fn numeral_within(octets: &[u8], least: usize, most: usize) -> Option<u32>
     requires { ⌜ most ≤ 9 ⌝ }
     ensures value { λ r. ⌜ r ≡ numeral least most (now (octets .entry)) ⌝ }
     ensures bound { λ r. ⌜ BySome r (Unit {0}) (λ n. n < 10 ^ most) ⌝ }
@@ -29,6 +29,14 @@ pub fn numeral_of(octets: &[u8], least: usize, most: usize) -> Option<u32>
         value = value * 10 + (*x - b'0') as u32;
     }
     Some(value)
+}
+
+// The number that so many digits write, nine at the most, or none.
+pub fn numeral_of(octets: &[u8], least: usize, most: usize) -> Option<u32>
+    ensures value { λ r. ⌜ r ≡ numeral least (min most 9) (now (octets .entry)) ⌝ }
+    ensures bound { λ r. ⌜ BySome r (Unit {0}) (λ n. n < 10 ^ min most 9) ⌝ }
+{
+    numeral_within(octets, least, most.min(9))
 }
 
 // A number of one to five digits.

@@ -106,6 +106,61 @@ fn forms_of_intervals() -> Result<(), Fail> {
     check_eq(judged(1, b"R3/20240107T183000/P14D/"), 7)
 }
 
+// The number of the refusal of a rule from 31 January 2024 at 9:00, or 0 where it is taken.
+fn ruled(rule: &[u8]) -> u8 {
+    let words = [
+        at(0, 0, b"e", rule),
+        at(0, 0, b"20240131T090000", rule),
+        rule,
+        at(0, 0, b"45", rule),
+        at(0, 0, b"E", rule),
+        at(0, 0, b"20240101", rule),
+        at(0, 0, b"20241231", rule),
+    ];
+    match read(&words) {
+        Ok(_) => 0,
+        Err(Fault::Refused(Argument::Rule, refusal)) => refusal.number(),
+        Err(_) => 99,
+    }
+}
+
+#[test]
+fn rules() -> Result<(), Fail> {
+    check_eq(ruled(b"FREQ=MONTHLY;COUNT=3"), 0)?;
+    check_eq(ruled(b"COUNT=10000;FREQ=DAILY;INTERVAL=999;WKST=SU"), 0)?;
+    check_eq(ruled(b"FREQ=YEARLY;BYDAY=-1WE,+53MO,5WE;BYMONTH=1"), 0)?;
+    check_eq(ruled(b"FREQ=YEARLY;UNTIL=20240131T090000"), 0)?;
+    check_eq(ruled(b""), 9)?;
+    check_eq(ruled(b"COUNT=3"), 9)?;
+    check_eq(ruled(b"FREQ=HOURLY"), 9)?;
+    check_eq(ruled(b"FREQ=DAILY;"), 9)?;
+    check_eq(ruled(b"FREQ=DAILY;FREQ=DAILY"), 9)?;
+    check_eq(ruled(b"FREQ=DAILY;BYSETPOS=1"), 9)?;
+    check_eq(ruled(b"FREQ=DAILY;BYMONTH=1,"), 9)?;
+    check_eq(ruled(b"FREQ=DAILY;BYMONTH=+1"), 9)?;
+    check_eq(ruled(b"FREQ=DAILY;BYMONTHDAY=031"), 9)?;
+    check_eq(ruled(b"FREQ=DAILY;UNTIL=20240201"), 9)
+}
+
+#[test]
+fn bounds_of_rules() -> Result<(), Fail> {
+    check_eq(ruled(b"FREQ=DAILY;INTERVAL=0"), 8)?;
+    check_eq(ruled(b"FREQ=DAILY;INTERVAL=1000"), 8)?;
+    check_eq(ruled(b"FREQ=DAILY;COUNT=99999999999999999999"), 8)?;
+    check_eq(ruled(b"FREQ=DAILY;UNTIL=20240230T090000"), 8)?;
+    check_eq(ruled(b"FREQ=DAILY;BYMONTH=1,2,3,4,5,6,7,8,9,10,11,12"), 0)?;
+    check_eq(ruled(b"FREQ=DAILY;BYMONTH=1,2,3,4,5,6,7,8,9,10,11,12,1"), 8)?;
+    check_eq(ruled(b"FREQ=DAILY;BYMONTH=13"), 8)?;
+    check_eq(ruled(b"FREQ=DAILY;BYMONTHDAY=-31,0"), 8)?;
+    check_eq(ruled(b"FREQ=MONTHLY;BYDAY=54WE"), 8)?;
+    check_eq(ruled(b"FREQ=WEEKLY;BYDAY=1WE"), 10)?;
+    check_eq(ruled(b"FREQ=DAILY;BYDAY=-1WE"), 10)?;
+    check_eq(ruled(b"FREQ=WEEKLY;BYMONTHDAY=31"), 10)?;
+    check_eq(ruled(b"FREQ=DAILY;COUNT=1;UNTIL=20240201T090000"), 10)?;
+    check_eq(ruled(b"FREQ=DAILY;UNTIL=20240131T085900"), 11)?;
+    check_eq(ruled(b"FREQ=WEEKLY;BYDAY=TU"), 11)
+}
+
 #[test]
 fn too_few_words() -> Result<(), Fail> {
     let words: [&[u8]; 5] = [b"e", b"R3/20240107T183000/P14D", b"45", b"E", b"20240101"];

@@ -9,3 +9,5 @@ mod event_agendas;
 mod page_writers;
 #[cfg(test)]
 mod source_intervals;
+#[cfg(test)]
+mod source_unions;

@@ -8,7 +8,7 @@ use Rattle.std.proofs.shelf.Tests.{and-right, and-parts, leb-true, le-leb}
 use Rattle.std.specs.declared.option.Option.the-variants.{Some}
 use Rattle.notation.specs.Digits.{isDigit, allDigits, valueFrom}
 use Rattle.notation.proofs.Values.{ten-more, ten-within, digit-range, digits-step, value-step}
-use Rattle.notation.proofs.digits.numeral_of.Needs as need
+use Rattle.notation.proofs.digits.numeral_within.Needs as need
 
 pub returns-then-not-is-digit : need.returns-then-not-is-digit
 returns-then-not-is-digit c =
