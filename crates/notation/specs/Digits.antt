@@ -34,6 +34,9 @@ numeral least most xs = cond (isNumeral least most xs) (Some (valueFrom 0 xs)) N
 abbrev pub number : List ℕ → Result ℕ Refusal
 number xs = formed (numeral 1 5 xs)
 
--- one or more digits; a number past every bound is as good as any other such
+-- one or more digits; a number past the cap is as good as the cap
+abbrev pub cappedAt : ℕ → List ℕ → Option ℕ
+cappedAt cap xs = cond (leb 1 (length xs) && allDigits xs) (Some (min (valueFrom 0 xs) cap)) None
+
 abbrev pub capped : List ℕ → Option ℕ
-capped xs = cond (leb 1 (length xs) && allDigits xs) (Some (min (valueFrom 0 xs) 100000)) None
+capped xs = cappedAt 100000 xs

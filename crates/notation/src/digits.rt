@@ -3,7 +3,7 @@ ghost use mathlib.Core.Path.{_≡_};
 ghost use Prim.Native.Nat.{ℕ, _+_, _*_, _<_, _≤_, _^_, min};
 ghost use lib.ListN.{length};
 ghost use Rattle.std.specs.Options.{Cases as BySome};
-ghost use Rattle.notation.specs.Digits.{isDigit, numeral, number, capped};
+ghost use Rattle.notation.specs.Digits.{isDigit, numeral, number, cappedAt, capped};
 use refusal::Refusal;
 
 fn is_digit(octet: u8) -> bool
@@ -49,9 +49,10 @@ pub fn number_of(octets: &[u8]) -> Result<u32, Refusal>
     Ok(value)
 }
 
-// The number that one or more digits write, or the cap where it is larger.
-pub fn capped_of(octets: &[u8]) -> Option<u32>
-    ensures { λ r. ⌜ r ≡ capped (now (octets .entry)) ⌝ }
+// The number that one or more digits write, or a cap where it is larger.
+fn capped_at(octets: &[u8], cap: u32) -> Option<u32>
+    requires { ⌜ cap ≤ 400000000 ⌝ }
+    ensures { λ r. ⌜ r ≡ cappedAt cap (now (octets .entry)) ⌝ }
 {
     if octets.is_empty() {
         return None;
@@ -61,7 +62,14 @@ pub fn capped_of(octets: &[u8]) -> Option<u32>
         if !is_digit(*x) {
             return None;
         }
-        value = (value * 10 + (*x - b'0') as u32).min(100_000);
+        value = (value * 10 + (*x - b'0') as u32).min(cap);
     }
     Some(value)
+}
+
+// The number that one or more digits write, or 100,000 where it is larger: past every bound of a rule.
+pub fn capped_of(octets: &[u8]) -> Option<u32>
+    ensures { λ r. ⌜ r ≡ capped (now (octets .entry)) ⌝ }
+{
+    capped_at(octets, 100_000)
 }

@@ -2,9 +2,9 @@ use mathlib.Core.Path.{_≡_}
 use Prim.Native.Nat.{_≤_, min}
 use lib.ListN.{drop}
 use Rattle.notation.specs.Digits.{allDigits, valueFrom}
-use Rattle.notation.proofs.digits.capped_of.Given as given
+use Rattle.notation.proofs.digits.capped_at.Given as given
 
 abbrev pub Inv-loop-x : given.InvT-loop-x
 Inv-loop-x l = (allDigits (drop (l .x-index) (l .octets)) ≡ allDigits (l .octets))
-    × (min (valueFrom (l .value) (drop (l .x-index) (l .octets))) 100000 ≡ min (valueFrom 0 (l .octets)) 100000)
-    × (l .value ≤ 100000)
+    × (min (valueFrom (l .value) (drop (l .x-index) (l .octets))) (l .cap) ≡ min (valueFrom 0 (l .octets)) (l .cap))
+    × (l .value ≤ (l .cap))

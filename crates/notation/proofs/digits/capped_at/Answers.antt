@@ -9,7 +9,7 @@ use Rattle.std.proofs.shelf.Lists.{at-drop-all}
 use Rattle.std.proofs.shelf.Tests.{and-right, eqb-false, le-leb}
 use Rattle.notation.specs.Digits.{isDigit, allDigits, valueFrom}
 use Rattle.notation.proofs.Values.{digit-range, digits-step, value-step, value-capped, above}
-use Rattle.notation.proofs.digits.capped_of.Needs as need
+use Rattle.notation.proofs.digits.capped_at.Needs as need
 
 pub returns-then-not-is-digit : need.returns-then-not-is-digit
 returns-then-not-is-digit c =
@@ -27,8 +27,8 @@ loop-x-again c =
     let n = c .loop-x .value * 10 + (getD xs i 0 - 48) in
     let m = c .min-value .ensures in (
       sym (digits-step xs i (omega arith) ∙ ap (λ b. b && allDigits (drop (i + 1) xs)) d) ∙ c .loop-x .inv .0,
-      ap (λ k. min (valueFrom k (drop (i + 1) xs)) 100000) m ∙ value-capped n 100000 (drop (i + 1) xs)
-          ∙ ap (λ k. min k 100000) (sym (value-step xs i (omega arith) (c .loop-x .value))) ∙ c .loop-x .inv .1,
+      ap (λ k. min (valueFrom k (drop (i + 1) xs)) (c .args .cap)) m ∙ value-capped n (c .args .cap) (drop (i + 1) xs)
+          ∙ ap (λ k. min k (c .args .cap)) (sym (value-step xs i (omega arith) (c .loop-x .value))) ∙ c .loop-x .inv .1,
       omega (arith, m),
     )
 
@@ -38,5 +38,5 @@ returns c =
     let i = c .loop-x .x-index in
     let some = above (length xs) (eqb-false (length xs) 0 (sym (c .is-empty .ensures) ∙ c .if-is-empty .left)) in
     let e : allDigits xs ≡ true = sym (c .loop-x .inv .0) ∙ at-drop-all allDigits xs i (omega arith) in
-    let v : min (c .loop-x .value) 100000 ≡ min (valueFrom 0 xs) 100000 = ap (λ k. min k 100000) (sym (at-drop-all (valueFrom (c .loop-x .value)) xs i (omega arith))) ∙ c .loop-x .inv .1 in
-    rw (le-leb 1 (length xs) some, e) (ap (λ n. Some n) (let w : c .loop-x .value ≡ min (valueFrom 0 xs) 100000 = omega (arith, v, c .loop-x .inv .2) in w))
+    let v : min (c .loop-x .value) (c .args .cap) ≡ min (valueFrom 0 xs) (c .args .cap) = ap (λ k. min k (c .args .cap)) (sym (at-drop-all (valueFrom (c .loop-x .value)) xs i (omega arith))) ∙ c .loop-x .inv .1 in
+    rw (le-leb 1 (length xs) some, e) (ap (λ n. Some n) (let w : c .loop-x .value ≡ min (valueFrom 0 xs) (c .args .cap) = omega (arith, v, c .loop-x .inv .2) in w))
