@@ -2,6 +2,7 @@
 use arguments::faults::FaultDisplay;
 use arguments::jobs::read;
 use arguments::prints::print;
+use rule_text::reading::bad_field;
 use std::alloc::AllocError;
 use std::env::Unfilled;
 use std::error::AnyError;
@@ -34,6 +35,17 @@ fn words(rt: &LibcRuntime) -> Result<Vec<Vec<u8>>, AllocError> {
     Ok(all)
 }
 
+// Says which field of a rule is no part of one, if there is such a field.
+fn name_part(rt: &LibcRuntime, rule: &[u8]) -> Result<(), AnyError> {
+    let Some(field) = bad_field(rule) else {
+        return Ok(());
+    };
+    rt.stderr().write_all(b"agenda: the part is ")?;
+    rt.stderr().write_all(field)?;
+    rt.stderr().write_all(b"\n")?;
+    Ok(())
+}
+
 fn run(rt: &LibcRuntime) -> Result<(), AnyError> {
     let heap = rt.alloc();
     let all = words(rt)?;
@@ -45,6 +57,9 @@ fn run(rt: &LibcRuntime) -> Result<(), AnyError> {
         Ok(command) => command,
         Err(fault) => {
             eprintln!(rt, "agenda: {fault}")?;
+            if octets.len() == WORDS - 1 {
+                name_part(rt, octets[2])?;
+            }
             return Err("the arguments are refused".into());
         }
     };

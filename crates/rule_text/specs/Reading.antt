@@ -37,6 +37,15 @@ abbrev pub partsRead : List (List ℕ) → Parts → Result Parts Refusal
 partsRead [] p = Ok p
 partsRead (f ∷ fs) p = andThen (partRead p f) (partsRead fs)
 
+-- the first field that is no part, or a part that was there already
+abbrev pub refusedIn : (Parts → Option (List ℕ)) → List ℕ → Result Parts Refusal → Option (List ℕ)
+refusedIn more f (Ok q) = more q
+refusedIn more f (Err e) = Some f
+
+abbrev pub badField : List (List ℕ) → Parts → Option (List ℕ)
+badField [] p = None
+badField (f ∷ fs) p = refusedIn (badField fs) f (partRead p f)
+
 abbrev pub none : {X : Type 0} → X → Few X
 none x = record { items = replicate 12 x; len = 0 }
 

@@ -2,8 +2,9 @@
 ghost use mathlib.Core.Path.{_≡_};
 ghost use Prim.Native.Nat.{ℕ, _+_, _<_, _≤_};
 ghost use lib.ListN.{length};
+ghost use Rattle.std.specs.Options.{mapped};
 ghost use Rattle.rule_text.specs.Lists.{fieldsAt};
-ghost use Rattle.rule_text.specs.Reading.{noParts, partsRead, settledBy, afterLast, recurrenceNamed, ReadsRule};
+ghost use Rattle.rule_text.specs.Reading.{noParts, partsRead, badField, settledBy, afterLast, recurrenceNamed, ReadsRule};
 use crate::part_texts::read_part;
 use crate::parts::Limit;
 use crate::parts::Parts;
@@ -20,26 +21,49 @@ use rule::parts::Ordinal;
 use rule::parts::Recurrence;
 use rule::rules::Rule;
 
+const NO_PARTS: Parts = Parts {
+    frequency: None,
+    interval: None,
+    week_start: None,
+    count: None,
+    until: None,
+    months: None,
+    month_days: None,
+    week_days: None,
+};
+
 // All parts of a text.
 fn read_parts(octets: &[u8]) -> Result<Parts, Refusal>
     ensures { λ r. ⌜ r ≡ partsRead (fieldsAt 59 (now (octets .entry))) noParts ⌝ }
 {
-    let mut parts = Parts {
-        frequency: None,
-        interval: None,
-        week_start: None,
-        count: None,
-        until: None,
-        months: None,
-        month_days: None,
-        week_days: None,
-    };
+    let mut parts = NO_PARTS;
     let mut text = octets;
     loop {
         let Some((field, rest)) = cut(text, ';') else {
             return read_part(&parts, text);
         };
         parts = read_part(&parts, field)?;
+        text = rest;
+    }
+}
+
+// The first field of a text that is no part of a rule, or repeats one.
+pub fn bad_field(octets: &[u8]) -> Option<&[u8]>
+    ensures { λ r. ⌜ mapped (λ f. now f) r ≡ badField (fieldsAt 59 (now (octets .entry))) noParts ⌝ }
+{
+    let mut parts = NO_PARTS;
+    let mut text = octets;
+    loop {
+        let Some((field, rest)) = cut(text, ';') else {
+            return match read_part(&parts, text) {
+                Ok(_) => None,
+                Err(_) => Some(text),
+            };
+        };
+        match read_part(&parts, field) {
+            Ok(more) => parts = more,
+            Err(_) => return Some(field),
+        }
         text = rest;
     }
 }
