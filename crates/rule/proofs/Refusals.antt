@@ -106,20 +106,20 @@ module _ (s : ℕ) (r : Option Recurrence) where
   unfolding refusal
   refused-conflict e f = by-conflict (inBounds s r) (conflict r) (among s (listOf s r)) (sym e) (sym f)
 
-  -- by the parts as the code has them
-  module _ (o : Option Pattern) (u c : Option ℕ) (eo : o ≡ patternOf r) (eu : u ≡ untilOf r) (ec : c ≡ countOf r) where
-    same : (b : Bool) → b ≡ among s (daysOf o s u c) → among s (listOf s r) ≡ b
-    same b e =
-        sym (e ∙ ap (λ (x : Option Pattern). among s (daysOf x s u c)) eo ∙ ap (λ (x : Option ℕ). among s (daysOf (patternOf r) s x c)) eu
-        ∙ ap (λ (x : Option ℕ). among s (daysOf (patternOf r) s (untilOf r) x)) ec)
+  pub refused-start : true ≡ inBounds s r → false ≡ conflict r → false ≡ among s (listOf s r) → Some StartNotPicked ≡ refusal s r
+  unfolding refusal
+  refused-start e f g = by-start (inBounds s r) (conflict r) (among s (listOf s r)) (sym e) (sym f) (sym g)
 
-    pub refused-start : true ≡ inBounds s r → false ≡ conflict r → false ≡ among s (daysOf o s u c) → Some StartNotPicked ≡ refusal s r
-    unfolding refusal
-    refused-start e f g = by-start (inBounds s r) (conflict r) (among s (listOf s r)) (sym e) (sym f) (same false g)
+  pub refused-none : true ≡ inBounds s r → false ≡ conflict r → true ≡ among s (listOf s r) → None ≡ refusal s r
+  unfolding refusal
+  refused-none e f g = by-none (inBounds s r) (conflict r) (among s (listOf s r)) (sym e) (sym f) (sym g)
 
-    pub refused-none : true ≡ inBounds s r → false ≡ conflict r → true ≡ among s (daysOf o s u c) → None ≡ refusal s r
-    unfolding refusal
-    refused-none e f g = by-none (inBounds s r) (conflict r) (among s (listOf s r)) (sym e) (sym f) (same true g)
+-- by the parts as the code has them
+pub same-list : (s : ℕ) (r : Option Recurrence) (o : Option Pattern) (u c : Option ℕ) (b : Bool) → o ≡ patternOf r → u ≡ untilOf r → c ≡ countOf r
+    → b ≡ among s (daysOf o s u c) → b ≡ among s (listOf s r)
+same-list s r o u c b eo eu ec e =
+    e ∙ ap (λ (x : Option Pattern). among s (daysOf x s u c)) eo ∙ ap (λ (x : Option ℕ). among s (daysOf (patternOf r) s x c)) eu
+    ∙ ap (λ (x : Option ℕ). among s (daysOf (patternOf r) s (untilOf r) x)) ec
 
 nothing : (a b c : Bool) → firstRefusal a b c ≡ None → (a ≡ true) × (b ≡ false) × (c ≡ true)
 nothing true true c e = let z : _≡_ {A = ℕ} 0 1 = cc in absurd (omega arith)
@@ -129,7 +129,7 @@ nothing false b c e = let z : _≡_ {A = ℕ} 0 1 = cc in absurd (omega arith)
 
 -- ---- what holds where nothing is refused
 
-bounds-parts : (s : ℕ) (r : Option Recurrence) → inBounds s r ≡ true → (s < 109573) × (patternBounds (patternOf r) ≡ true) × (countBounds (countOf r) ≡ true)
+pub bounds-parts : (s : ℕ) (r : Option Recurrence) → inBounds s r ≡ true → (s < 109573) × (patternBounds (patternOf r) ≡ true) × (countBounds (countOf r) ≡ true)
 bounds-parts s r e =
     let a = and-parts (leb s lastDay) _ e in
     let b = and-parts (patternBounds (patternOf r)) _ (a .1) in
@@ -187,9 +187,9 @@ fine s r o u c eo eu ec e =
     (subst (λ (x : Option ℕ). Fine s (patternOf r) x c) (sym eu) (subst (λ (x : Option ℕ). Fine s (patternOf r) (untilOf r) x) (sym ec) (fine-of s r e)))
 
 -- and so they are tested
-pub to-test : (s : ℕ) (r : Option Recurrence) (o : Option Pattern) (c : Option ℕ) → o ≡ patternOf r → c ≡ countOf r → true ≡ inBounds s r → false ≡ conflict r
+pub to-test : (s : ℕ) (r : Option Recurrence) (o : Option Pattern) (c : Option ℕ) → o ≡ patternOf r → c ≡ countOf r → inBounds s r ≡ true → conflict r ≡ false
     → (s < 109573) × ((sound o ≡ true) × (countBounds c ≡ true))
 to-test s r o c eo ec e f =
-    let b = bounds-parts s r (sym e) in
-    let k = conflict-parts r (sym f) in
+    let b = bounds-parts s r e in
+    let k = conflict-parts r f in
     (b .0, (subst (λ (x : Option Pattern). sound x ≡ true) (sym eo) (sound-from (patternOf r) (b .1) (k .0)), subst (λ (x : Option ℕ). countBounds x ≡ true) (sym ec) (b .2)))

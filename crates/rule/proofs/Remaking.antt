@@ -44,6 +44,12 @@ one-of (Some d) (Some (suc k)) x xs ys o e = absurd (omega (arith, eqb-true (suc
 past : (f : ℕ → Bool) (s e x : ℕ) (xs : List ℕ) → span f s e ≡ x ∷ xs → s < e
 past f s e x xs q = ⊎-elim (λ (l : s < e). l) (λ (l : e ≤ s). absurd (empty-not x xs (sym (void f s e l) ∙ q))) (cases-lt s e)
 
+first-day : (f : ℕ → Bool) (s e x : ℕ) (xs : List ℕ) → f s ≡ true → span f s e ≡ x ∷ xs → x ≡ s
+first-day f s e x xs t q =
+    let l = past f s e x xs q in
+    let w : s ∷ span f (s + 1) e ≡ x ∷ xs = sym (found f s e l t) ∙ q in
+    cc
+
 once : (s k : ℕ) → chooses None s k ≡ eqb k s
 unfolding chooses
 once s k = refl
@@ -82,4 +88,4 @@ remade s e (Some p) u c b h t g f n settled x xs d = (accepted s e u c b h f n p
 pub remakes : (r : Rule) → Remakes r
 remakes r x xs d =
     let m = remade (r .start) (r .end) (r .pattern) (r .until) (r .count) (r .range .0) (r .range .1) (r .parts) (r .begins) (r .few) (r .ends) (r .settled) x xs d in
-    record { accepted = m .0; same = m .1 }
+    record { first = first-day (chooses (r .pattern) (r .start)) (r .start) (r .end) x xs (r .begins) (sym (r .settled) ∙ d); accepted = m .0; same = m .1 }

@@ -26,10 +26,11 @@ recurrenceBy (Some p) count until = Some (record {
 abbrev pub recurrenceIn : Rule → Option Recurrence
 recurrenceIn r = recurrenceBy (r .pattern) (r .count) (r .until)
 
--- the start and the recurrence of a rule that has days are not refused, and mean the same days
-pub record Remade (r : Rule) : Type 0 where
+-- the first day of a rule that has days is its start; start and recurrence are not refused, and mean the same days
+pub record Remade (r : Rule) (x : ℕ) : Type 0 where
+  pub first : x ≡ r .start
   pub accepted : refusal (r .start) (recurrenceIn r) ≡ None
   pub same : listOf (r .start) (recurrenceIn r) ≡ daysIn r
 
 abbrev pub Remakes : Rule → Type 0
-Remakes r = (x : ℕ) (xs : List ℕ) → daysIn r ≡ x ∷ xs → Remade r
+Remakes r = (x : ℕ) (xs : List ℕ) → daysIn r ≡ x ∷ xs → Remade r x

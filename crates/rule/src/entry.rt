@@ -1,12 +1,12 @@
 // The entries of a rule's lists: each is tested at the facts of a day, and has its bounds.
 ghost use denote.Ref.{now};
 ghost use mathlib.Core.Path.{_≡_};
-ghost use mathlib.Core.Bool.{Bool};
+ghost use mathlib.Core.Bool.{Bool, true};
 ghost use Prim.Native.Nat.{_≤_};
 ghost use Rattle.calendar.specs.Weekdays.{weekdayNumber};
 ghost use Rattle.rule.specs.declared.parts.Facts.{Facts};
-ghost use Rattle.rule.specs.Picks.{any, allows, atMonth, atMonthDay, atWeekday, counts};
-ghost use Rattle.rule.specs.Bounds.{all, fewFit, monthFits, monthDayFits, ordinalFits, dayEntryFits};
+ghost use Rattle.rule.specs.Picks.{any, allows, entries, atMonth, atMonthDay, atWeekday, counts};
+ghost use Rattle.rule.specs.Bounds.{all, fewFit, monthFits, monthDayFits, ordinalFits, dayEntryFits, plain};
 use crate::parts::DayEntry;
 use crate::parts::Facts;
 use crate::parts::Few;
@@ -19,17 +19,25 @@ pub(crate) trait Entry {
 
     ghost bounds: { Self → Bool };
 
+    ghost simple: { Self → Bool };
+
     fn passes(&self, facts: &Facts) -> bool
         ensures { λ r. ⌜ r ≡ test (now (facts .entry)) (now (self .entry)) ⌝ };
 
     fn fits(&self) -> bool
         ensures { λ r. ⌜ r ≡ bounds (now (self .entry)) ⌝ };
+
+    // It has no ordinal.
+    fn is_plain(&self) -> bool
+        ensures { λ r. ⌜ r ≡ simple (now (self .entry)) ⌝ };
 }
 
 pub(crate) impl Entry for u8 as MonthEntry {
     ghost test = { λ f m. atMonth f m };
 
     ghost bounds = { λ m. monthFits m };
+
+    ghost simple = { λ m. true };
 
     fn passes(&self, facts: &Facts) -> bool {
         facts.month == *self
@@ -38,12 +46,18 @@ pub(crate) impl Entry for u8 as MonthEntry {
     fn fits(&self) -> bool {
         1 <= *self && *self <= 12
     }
+
+    fn is_plain(&self) -> bool {
+        true
+    }
 }
 
 pub(crate) impl Entry for MonthDay as MonthDayEntry {
     ghost test = { λ f e. atMonthDay f e };
 
     ghost bounds = { λ e. monthDayFits e };
+
+    ghost simple = { λ e. true };
 
     fn passes(&self, facts: &Facts) -> bool {
         match *self {
@@ -57,6 +71,10 @@ pub(crate) impl Entry for MonthDay as MonthDayEntry {
             MonthDay::FromStart(n) => 1 <= n && n <= 31,
             MonthDay::FromEnd(n) => 1 <= n && n <= 31,
         }
+    }
+
+    fn is_plain(&self) -> bool {
+        true
     }
 }
 
@@ -101,6 +119,8 @@ pub(crate) impl Entry for DayEntry as WeekdayEntry {
 
     ghost bounds = { λ e. dayEntryFits e };
 
+    ghost simple = { λ e. plain e };
+
     fn passes(&self, facts: &Facts) -> bool {
         if facts.weekday != number_of(self.weekday) {
             return false;
@@ -110,6 +130,14 @@ pub(crate) impl Entry for DayEntry as WeekdayEntry {
 
     fn fits(&self) -> bool {
         ordinal_fits(self.ordinal)
+    }
+
+    fn is_plain(&self) -> bool {
+        match self.ordinal {
+            Ordinal::Every => true,
+            Ordinal::FromStart(_) => false,
+            Ordinal::FromEnd(_) => false,
+        }
     }
 }
 
@@ -158,4 +186,24 @@ pub(crate) fn few_fit<T: Entry>(few: &Few<T>) -> bool
     }
     let items = &few.items[..];
     each_fits(&items[0..few.len])
+}
+
+// No entry has an ordinal.
+fn each_plain<T: Entry>(list: &[T]) -> bool
+    ensures { λ r. ⌜ r ≡ all (T·Entry .simple) (now (list .entry)) ⌝ }
+{
+    for e in list {
+        if !e.is_plain() {
+            return false;
+        }
+    }
+    true
+}
+
+pub(crate) fn few_plain<T: Entry>(few: &Few<T>) -> bool
+    requires { ⌜ now few .len ≤ 12 ⌝ }
+    ensures { λ r. ⌜ r ≡ all (T·Entry .simple) (entries (now (few .entry))) ⌝ }
+{
+    let items = &few.items[..];
+    each_plain(&items[0..few.len])
 }

@@ -4,18 +4,15 @@ ghost use mathlib.Core.Bool.{true, false};
 ghost use Prim.Native.Nat.{_<_, _≤_};
 ghost use Rattle.std.specs.declared.option.Option.the-variants.{None};
 ghost use Rattle.rule.specs.Spans.{span, stop};
-ghost use Rattle.rule.specs.Picks.{entries};
 ghost use Rattle.rule.specs.Lists.{chooses, daysOf};
-ghost use Rattle.rule.specs.Bounds.{all, plain, sound};
-ghost use Rattle.rule.specs.Refused.{patternOf, untilOf, countOf, patternBounds, patternSuits, countBounds, inBounds, conflict, among, refusal, Made, MakesRule};
+ghost use Rattle.rule.specs.Bounds.{sound};
+ghost use Rattle.rule.specs.Refused.{patternOf, untilOf, countOf, listOf, patternBounds, patternSuits, countBounds, inBounds, conflict, among, refusal, Made, MakesRule};
 use crate::entry::MonthDayEntry;
 use crate::entry::MonthEntry;
 use crate::entry::WeekdayEntry;
 use crate::entry::few_fit;
-use crate::parts::DayEntry;
-use crate::parts::Few;
+use crate::entry::few_plain;
 use crate::parts::Frequency;
-use crate::parts::Ordinal;
 use crate::parts::Pattern;
 use crate::parts::Recurrence;
 use crate::rules::Rule;
@@ -100,35 +97,6 @@ fn in_bounds(start: u32, recurrence: &Option<Recurrence>) -> bool
 
 // ---- conflicts
 
-fn is_plain(entry: &DayEntry) -> bool
-    ensures { λ r. ⌜ r ≡ plain (now (entry .entry)) ⌝ }
-{
-    match entry.ordinal {
-        Ordinal::Every => true,
-        Ordinal::FromStart(_) => false,
-        Ordinal::FromEnd(_) => false,
-    }
-}
-
-fn each_plain(list: &[DayEntry]) -> bool
-    ensures { λ r. ⌜ r ≡ all plain (now (list .entry)) ⌝ }
-{
-    for e in list {
-        if !is_plain(e) {
-            return false;
-        }
-    }
-    true
-}
-
-fn plain_days(few: &Few<DayEntry>) -> bool
-    requires { ⌜ now few .len ≤ 12 ⌝ }
-    ensures { λ r. ⌜ r ≡ all plain (entries (now (few .entry))) ⌝ }
-{
-    let items = &few.items[..];
-    each_plain(&items[0..few.len])
-}
-
 fn pattern_suits(pattern: &Option<Pattern>) -> bool
     requires { ⌜ patternBounds (now pattern) ≡ true ⌝ }
     ensures { λ r. ⌜ r ≡ patternSuits (now (pattern .entry)) ⌝ }
@@ -136,8 +104,8 @@ fn pattern_suits(pattern: &Option<Pattern>) -> bool
     match pattern {
         None => true,
         Some(p) => match p.frequency {
-            Frequency::Daily => plain_days(&p.week_days),
-            Frequency::Weekly => plain_days(&p.week_days) && p.month_days.len == 0,
+            Frequency::Daily => few_plain(&p.week_days),
+            Frequency::Weekly => few_plain(&p.week_days) && p.month_days.len == 0,
             Frequency::Monthly => true,
             Frequency::Yearly => true,
         },
@@ -167,6 +135,16 @@ fn starts(pattern: &Option<Pattern>, start: u32, until: Option<u32>, count: Opti
     next_day(pattern, start, start, start + 1) == start
 }
 
+fn start_listed(start: u32, recurrence: &Option<Recurrence>) -> bool
+    requires { ⌜ inBounds start (now recurrence) ≡ true ⌝ ∗ ⌜ conflict (now recurrence) ≡ false ⌝ }
+    ensures { λ r. ⌜ r ≡ among start (listOf start (now (recurrence .entry))) ⌝ }
+{
+    let pattern = pattern_of(recurrence);
+    let until = until_of(recurrence);
+    let count = count_of(recurrence);
+    starts(&pattern, start, until, count)
+}
+
 // The first refusal that applies, or none.
 fn refused(start: u32, recurrence: &Option<Recurrence>) -> Option<Refusal>
     ensures { λ r. ⌜ r ≡ refusal start (now (recurrence .entry)) ⌝ }
@@ -177,12 +155,7 @@ fn refused(start: u32, recurrence: &Option<Recurrence>) -> Option<Refusal>
     if conflicting(recurrence) {
         return Some(Refusal::RuleConflict);
     }
-    if !starts(
-        &pattern_of(recurrence),
-        start,
-        until_of(recurrence),
-        count_of(recurrence),
-    ) {
+    if !start_listed(start, recurrence) {
         return Some(Refusal::StartNotPicked);
     }
     None

@@ -1,6 +1,5 @@
 // The parts of a recurrence.
 use calendar::weekdays::Weekday;
-use calendar::weekdays::WeekdayDebug;
 use calendar::weekdays::WeekdayPartialEq;
 
 // FREQ: what the periods are.
@@ -28,7 +27,7 @@ pub enum Ordinal {
 }
 
 // An entry of BYDAY.
-#[derive(Clone, Copy, PartialEq, Eq, Debug)]
+#[derive(Clone, Copy, PartialEq, Eq)]
 pub struct DayEntry {
     pub weekday: Weekday,
     pub ordinal: Ordinal,
@@ -36,14 +35,14 @@ pub struct DayEntry {
 
 // The first `len` items are the entries, in the order given; there are none where the part is absent.
 // The items after them mean nothing, so that `==` is not derived.
-#[derive(Clone, Copy, Debug)]
+#[derive(Clone, Copy)]
 pub struct Few<T> {
     pub items: [T; 12],
     pub len: usize,
 }
 
 // A recurrence as it is read, with nothing checked. `until` is the day after the last day.
-#[derive(Clone, Copy, Debug)]
+#[derive(Clone, Copy)]
 pub struct Recurrence {
     pub frequency: Frequency,
     pub interval: u32,
@@ -56,7 +55,7 @@ pub struct Recurrence {
 }
 
 // What says which days are picked: a recurrence less its ends.
-#[derive(Clone, Copy, Debug)]
+#[derive(Clone, Copy)]
 pub struct Pattern {
     pub frequency: Frequency,
     pub interval: u32,

@@ -1,2 +1,11 @@
 pub mod Sames
 pub mod Fielding
+pub mod Separated
+pub mod WrittenNumbers
+pub mod WrittenDays
+pub mod WrittenLists
+pub mod WrittenEntries
+pub mod WrittenParts
+pub mod ReadsBack
+pub mod Chains
+pub mod SameMeaning

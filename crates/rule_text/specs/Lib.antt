@@ -3,3 +3,4 @@ pub mod Entries
 pub mod Lists
 pub mod Parts
 pub mod Reading
+pub mod Writing
