@@ -54,7 +54,7 @@ once : (s k : ℕ) → chooses None s k ≡ eqb k s
 unfolding chooses
 once s k = refl
 
-alone : (s e : ℕ) → s < e → span (chooses None s) s e ≡ s ∷ []
+pub alone : (s e : ℕ) → s < e → span (chooses None s) s e ≡ s ∷ []
 alone s e l =
     found (chooses None s) s e l (once s s ∙ eq-eqb s s refl)
     ∙ ap (λ (xs : List ℕ). s ∷ xs) (empty (chooses None s) (s + 1) e (λ k a b. once s k ∙ ne-eqb k s (λ z. omega arith)))

@@ -9,3 +9,4 @@ pub mod WrittenParts
 pub mod ReadsBack
 pub mod Chains
 pub mod SameMeaning
+pub mod LinesMean

@@ -4,3 +4,4 @@ pub mod Lists
 pub mod Parts
 pub mod Reading
 pub mod Writing
+pub mod DayLines

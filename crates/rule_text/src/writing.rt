@@ -7,6 +7,8 @@ ghost use Rattle.std.specs.declared.option.Option.the-variants.{Some};
 ghost use Rattle.page.specs.Lines.{clockText};
 ghost use Rattle.page.specs.Pages.{Added, Full, Kept, Short};
 ghost use Rattle.rule_text.specs.Writing.{frequencyText, intervalText, weekStartText, countText, lastText, untilText, periodText, endText, listsText, recurrenceText, ReadsBack, SameDays};
+ghost use Rattle.rule.specs.Remade.{recurrenceIn};
+ghost use Rattle.rule_text.specs.DayLines.{ruleText, LinesMean};
 use crate::entry_texts::DayEntryWritten;
 use crate::entry_texts::MonthDayWritten;
 use crate::entry_texts::MonthWritten;
@@ -22,6 +24,7 @@ use page::pages::put;
 use refusal::Refusal;
 use rule::parts::Frequency;
 use rule::parts::Recurrence;
+use rule::rules::Rule;
 
 fn frequency_octets(frequency: Frequency) -> &'static [u8]
     ensures { λ r. ⌜ now r ≡ frequencyText frequency ⌝ }
@@ -186,4 +189,27 @@ pub fn put_recurrence(
     put_parts(octets, guard.len, recurrence, clock)?;
     guard.done = true;
     Ok(())
+}
+
+// That the lines of a rule mean its days.
+fn lines_mean()
+    ensures { λ _. ⌜ LinesMean ⌝ }
+{}
+
+// Adds the text of a rule's recurrence, of a rule without one nothing.
+pub fn put_rule(
+    octets: &mut [u8],
+    len: &mut usize,
+    rule: &Rule,
+    clock: u16,
+) -> Result<(), Refusal>
+    ensures kept { λ _. ⌜ Kept (now (octets .entry)) (now (octets .exit)) (now (len .entry)) ⌝ }
+    ensures cases { λ r. ⌜ Cases r (λ _. Added (ruleText clock (recurrenceIn (now (rule .entry)))) (now (octets .entry)) (now (octets .exit)) (now (len .entry)) (now (len .exit))) (λ e. Full (ruleText clock (recurrenceIn (now (rule .entry)))) (now (octets .entry)) (now (len .entry)) (now (len .exit)) e) ⌝ }
+    ensures lines { λ _. ⌜ LinesMean ⌝ }
+{
+    lines_mean();
+    match rule.recurrence() {
+        None => put(octets, len, b""),
+        Some(recurrence) => put_recurrence(octets, len, &recurrence, clock),
+    }
 }

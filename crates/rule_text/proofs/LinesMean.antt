@@ -1,0 +1,115 @@
+-- The lines of a rule mean its days.
+use mathlib.Core.Path.{_≡_, refl, sym, ap, _∙_}
+use mathlib.Core.Bool.{Bool, true, false, cond, _&&_}
+use mathlib.Core.List.{List, [], _∷_, _++_}
+use Prim.Native.Nat.{ℕ, zero, suc, _-_, _<_, _≤_}
+use native.Mathlib.Omega.{arith}
+use lib.Chars.{codes}
+use Rattle.std.specs.declared.option.Option.{Option}
+use Rattle.std.specs.declared.option.Option.the-variants.{None, Some}
+use Rattle.std.specs.declared.result.Result.the-variants.{Ok}
+use Rattle.refusal.specs.declared.Refusal.{Refusal}
+use Rattle.refusal.specs.declared.Refusal.the-variants.{OutOfBounds, RuleConflict, StartNotPicked}
+use Rattle.rule.specs.declared.parts.Pattern.{Pattern}
+use Rattle.rule.specs.declared.parts.Recurrence.{Recurrence}
+use Rattle.rule.specs.declared.rules.Rule.{Rule}
+use Rattle.rule.specs.Cut.{daysIn}
+use Rattle.rule.specs.Lists.{chooses, daysOf}
+use Rattle.rule.specs.Refused.{listOf, refusal, firstRefusal, inBounds, conflict, among}
+use Rattle.rule.specs.Remade.{recurrenceBy, recurrenceIn}
+use Rattle.rule.specs.Spans.{limited, stop}
+use Rattle.rule.proofs.Spans.{void}
+use Rattle.rule.proofs.Remaking.{alone, remakes}
+use Rattle.source.specs.Unions.{merged}
+use Rattle.rule_text.specs.Lists.{ifSome}
+use Rattle.rule_text.specs.DayLines.{given, momentDays, unrefused, ruleDays, startDays, linesDays, startText, ruleLines, repeatLine, endKnown, Twelve, LinesMean}
+use Rattle.rule_text.specs.Reading.{recurrenceNamed}
+use Rattle.rule_text.specs.Words.{sameText}
+use Rattle.rule_text.specs.Writing.{recurrenceText, lastKnown, Writable, SameParts}
+use Rattle.rule_text.proofs.ReadsBack.{reads-back}
+use Rattle.rule_text.proofs.SameMeaning.{same-days, same-refusal}
+use Rattle.rule_text.proofs.WrittenDays.{moment-read}
+
+no-day : (x : ℕ) (xs : List ℕ) → [] ≡ x ∷ xs → ⊥
+no-day x xs e = let z : _≡_ {A = ℕ} 0 1 = cc in omega arith
+
+-- what is not refused is in bounds
+bounds-first : (b c p : Bool) → firstRefusal b c p ≡ None → b ≡ true
+bounds-first true c p e = refl
+bounds-first false c p e = let z : _≡_ {A = ℕ} 0 1 = cc in absurd (omega arith)
+
+accepted-bounds : (start : ℕ) (r : Option Recurrence) → refusal start r ≡ None → inBounds start r ≡ true
+unfolding refusal
+accepted-bounds start r e = bounds-first (inBounds start r) (conflict r) (among start (listOf start r)) e
+
+-- the last day of a rule with days is not before the first
+none-left : (c : Option ℕ) → limited c [] ≡ []
+none-left None = refl
+none-left (Some zero) = refl
+none-left (Some (suc k)) = refl
+
+last-known : (p : Option Pattern) (start x : ℕ) (xs : List ℕ) (until count : Option ℕ) → endKnown until → daysOf p start until count ≡ x ∷ xs → lastKnown until
+last-known p start x xs None count k d = tt
+last-known p start x xs (Some zero) count k d =
+    let l : stop (Some 0) ≤ start = omega arith in
+    absurd (no-day x xs (sym (none-left count) ∙ ap (limited count) (sym (void (chooses p start) start (stop (Some 0)) l)) ∙ d))
+last-known p start x xs (Some (suc u)) count k d = (omega arith, k)
+
+-- ---- the values of the lines
+
+alone-values : (t : List ℕ) → linesDays ((codes "DTSTART:" ++ t) ∷ []) ≡ startDays (t ∷ []) [] []
+unfolding sameText
+alone-values t = refl
+
+both-values : (t u : List ℕ) → linesDays ((codes "DTSTART:" ++ t) ∷ (codes "RRULE:" ++ u) ∷ []) ≡ startDays (t ∷ []) (u ∷ []) []
+unfolding sameText
+both-values t u = refl
+
+-- ---- the days
+
+-- without RDATE
+abbrev listed : Option (List ℕ) → ℕ → Option (List ℕ)
+listed days clock = ifSome days (λ xs. ifSome (momentDays clock []) (λ ys. Some (merged xs ys)))
+
+repeats : (day clock : ℕ) (r s : Recurrence) (t : List ℕ) → recurrenceNamed clock t ≡ Ok s → SameParts s r → refusal day (Some r) ≡ None → ruleDays (record { day = day; clock = clock }) (t ∷ []) ≡ Some (listOf day (Some r))
+repeats day clock r s t e same ok =
+    ap (λ q. given q (λ z. unrefused (refusal day (Some z)) (listOf day (Some z)))) e
+    ∙ ap (λ q. unrefused q (listOf day (Some s))) (same-refusal s r same day ∙ ok)
+    ∙ ap (λ q. Some q) (same-days s r same day)
+
+by-pattern : (p : Option Pattern) (count until : Option ℕ) (day clock x : ℕ) (xs : List ℕ) →
+    clock < 1440 → day < 109573 → Twelve p → endKnown until →
+    refusal day (recurrenceBy p count until) ≡ None →
+    listOf day (recurrenceBy p count until) ≡ x ∷ xs →
+    linesDays ((codes "DTSTART:" ++ startText day clock) ∷ repeatLine clock (recurrenceBy p count until)) ≡ Some (listOf day (recurrenceBy p count until))
+by-pattern None count until day clock x xs h k tw ends ok d =
+    alone-values (startText day clock)
+    ∙ ap (λ q. given q (λ m. listed (ruleDays m []) (m .clock))) (moment-read day clock k h)
+    ∙ ap (λ q. Some q) (sym (alone day 109573 k))
+by-pattern (Some p) count until day clock x xs h k tw ends ok d =
+    let r : Recurrence = record {
+      frequency = p .frequency;
+      interval = p .interval;
+      «week_start» = p .«week_start»;
+      count = count;
+      until = until;
+      months = p .months;
+      «month_days» = p .«month_days»;
+      «week_days» = p .«week_days»;
+    } in
+    let b = reads-back clock day r (record {
+      minute = h;
+      bounds = accepted-bounds day (Some r) ok;
+      last = last-known (Some p) day x xs until count ends d;
+      months = tw .0;
+      month-days = tw .1;
+      week-days = tw .2;
+    }) in
+    both-values (startText day clock) (recurrenceText clock r)
+    ∙ ap (λ q. given q (λ m. listed (ruleDays m (recurrenceText clock r ∷ [])) (m .clock))) (moment-read day clock k h)
+    ∙ ap (λ q. listed q clock) (repeats day clock r (b .0) (recurrenceText clock r) (b .1) (b .2) ok)
+
+pub lines-mean : LinesMean
+lines-mean clock r x xs h tw ends d = 
+    let m = remakes r x xs d in
+    by-pattern (r .pattern) (r .count) (r .until) (r .start) clock x xs h (r .range .0) tw ends (m .accepted) (m .same ∙ d) ∙ ap (λ q. Some q) (m .same)
