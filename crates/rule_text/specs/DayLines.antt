@@ -2,7 +2,7 @@
 use mathlib.Core.Bool.{cond}
 use mathlib.Core.List.{List, [], _∷_, _++_}
 use mathlib.Core.Path.{_≡_}
-use Prim.Native.Nat.{ℕ, _<_, _≤_}
+use Prim.Native.Nat.{ℕ, _<_}
 use lib.Chars.{codes}
 use lib.Dec.{eqb}
 use lib.ListN.{length}
@@ -92,11 +92,6 @@ ruleLines clock r = (codes "DTSTART:" ++ startText (r .start) clock) ∷ repeatL
 
 -- ---- a rule's lines mean its days
 
--- a last day in the calendar, where one is given
-abbrev pub endKnown : Option ℕ → Type 0
-endKnown None = Unit {0}
-endKnown (Some d) = d ≤ 109573
-
 -- the twelve items of each list
 abbrev pub Twelve : Option Pattern → Type 0
 Twelve None = Unit {0}
@@ -104,4 +99,4 @@ Twelve (Some p) = (length (p .months .items) ≡ 12) × (length (p .«month_days
 
 -- of a rule with days, at a minute of the day
 abbrev pub LinesMean : Type 0
-LinesMean = (clock : ℕ) (r : Rule) (x : ℕ) (xs : List ℕ) → clock < 1440 → Twelve (r .pattern) → endKnown (r .until) → daysIn r ≡ x ∷ xs → linesDays (ruleLines clock r) ≡ Some (daysIn r)
+LinesMean = (clock : ℕ) (r : Rule) (x : ℕ) (xs : List ℕ) → clock < 1440 → Twelve (r .pattern) → daysIn r ≡ x ∷ xs → linesDays (ruleLines clock r) ≡ Some (daysIn r)

@@ -197,12 +197,7 @@ fn lines_mean()
 {}
 
 // Adds the text of a rule's recurrence, of a rule without one nothing.
-pub fn put_rule(
-    octets: &mut [u8],
-    len: &mut usize,
-    rule: &Rule,
-    clock: u16,
-) -> Result<(), Refusal>
+pub fn put_rule(octets: &mut [u8], len: &mut usize, rule: &Rule, clock: u16) -> Result<(), Refusal>
     ensures kept { λ _. ⌜ Kept (now (octets .entry)) (now (octets .exit)) (now (len .entry)) ⌝ }
     ensures cases { λ r. ⌜ Cases r (λ _. Added (ruleText clock (recurrenceIn (now (rule .entry)))) (now (octets .entry)) (now (octets .exit)) (now (len .entry)) (now (len .exit))) (λ e. Full (ruleText clock (recurrenceIn (now (rule .entry)))) (now (octets .entry)) (now (len .entry)) (now (len .exit)) e) ⌝ }
     ensures lines { λ _. ⌜ LinesMean ⌝ }
