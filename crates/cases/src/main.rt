@@ -1,14 +1,19 @@
 // Runs the rules and cuts of tables of outside cases, prints a line for each that fails, and a count at the end.
 use calendar::days::LAST_DAY;
+use calendar::days::date_of;
 use calendar::starts::Moment;
 use notation::dates::read_day;
 use notation::digits::number_of;
 use notation::digits::numeral_of;
 use notation::fields::cut;
+use page::numbers::put_clock;
+use page::numbers::put_date;
+use page::pages::put;
 use refusal::Refusal;
 use rule::rule_source::RuleSource;
 use rule::rules::Rule;
 use rule_text::reading::read_rule;
+use rule_text::writing::put_rule;
 use source::sources::Source;
 use std::error::AnyError;
 use std::fs;
@@ -105,6 +110,37 @@ fn rule_holds(row: &[u8]) -> bool {
     }
 }
 
+// The start and the recurrence of a rule as their lines, parted by a bar.
+fn put_lines(
+    octets: &mut [u8],
+    len: &mut usize,
+    rule: &Rule,
+    clock: u16,
+) -> Result<(), Refusal> {
+    let Some(date) = date_of(rule.start()) else {
+        return Err(Refusal::OutOfBounds);
+    };
+    put(octets, len, b"DTSTART:")?;
+    put_date(octets, len, date)?;
+    put(octets, len, b"T")?;
+    put_clock(octets, len, clock)?;
+    put(octets, len, b"00|RRULE:")?;
+    put_rule(octets, len, rule, clock)
+}
+
+// Whether the lines of a rule are those; a rule without days has none.
+fn writes(rule: &Rule, clock: u16, lines: &[u8]) -> bool {
+    if rule.first_at(0).is_none() {
+        return lines.is_empty();
+    }
+    let mut octets = [0u8; 512];
+    let mut len = 0;
+    match put_lines(&mut octets, &mut len, rule, clock) {
+        Ok(()) => octets.iter().take(len).eq(lines.iter()),
+        Err(_) => false,
+    }
+}
+
 // A row of start, clock, rule, the day of the cut, head or tail, the number of days, the first of them, and the lines written.
 fn cut_holds(row: &[u8]) -> bool {
     let Some(start) = start_of_row(row) else {
@@ -124,7 +160,9 @@ fn cut_holds(row: &[u8]) -> bool {
     } else {
         rule.tail(day)
     };
-    days_in(&part) == count && begins_with(&part, field(row, 6)).is_some()
+    days_in(&part) == count
+        && begins_with(&part, field(row, 6)).is_some()
+        && writes(&part, start.clock, field(row, 7))
 }
 
 #[derive(Clone, Copy)]
