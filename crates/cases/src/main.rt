@@ -111,12 +111,7 @@ fn rule_holds(row: &[u8]) -> bool {
 }
 
 // The start and the recurrence of a rule as their lines, parted by a bar.
-fn put_lines(
-    octets: &mut [u8],
-    len: &mut usize,
-    rule: &Rule,
-    clock: u16,
-) -> Result<(), Refusal> {
+fn put_lines(octets: &mut [u8], len: &mut usize, rule: &Rule, clock: u16) -> Result<(), Refusal> {
     let Some(date) = date_of(rule.start()) else {
         return Err(Refusal::OutOfBounds);
     };
