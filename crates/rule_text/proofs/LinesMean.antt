@@ -23,7 +23,7 @@ use Rattle.rule.specs.Remade.{recurrenceBy, recurrenceIn}
 use Rattle.rule.specs.Spans.{limited, span, stop}
 use Rattle.rule.proofs.Spans.{void}
 use Rattle.rule.proofs.Remaking.{alone, remakes}
-use Rattle.source.specs.Unions.{merged}
+use Rattle.dates.specs.Unions.{merged}
 use Rattle.rule_text.specs.Lists.{ifSome}
 use Rattle.rule_text.specs.DayLines.{given, momentDays, unrefused, ruleDays, startDays, linesDays, startText, ruleLines, repeatLine, Twelve, LinesMean}
 use Rattle.rule_text.specs.Reading.{recurrenceNamed}

@@ -24,7 +24,7 @@ use Rattle.rule.specs.declared.rules.Rule.{Rule}
 use Rattle.rule.specs.Cut.{daysIn}
 use Rattle.rule.specs.Refused.{listOf, refusal}
 use Rattle.rule.specs.Remade.{recurrenceIn}
-use Rattle.source.specs.Unions.{slot, merged}
+use Rattle.dates.specs.Unions.{slot, merged}
 use Rattle.rule_text.specs.Lists.{fieldsAt, ifSome}
 use Rattle.rule_text.specs.Reading.{recurrenceNamed}
 use Rattle.rule_text.specs.Words.{sameText}

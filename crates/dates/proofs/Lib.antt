@@ -1,0 +1,4 @@
+pub mod Climbing
+pub mod Splits
+pub mod Merges
+pub mod Members

@@ -1,0 +1,3 @@
+pub mod Climbs
+pub mod Dates
+pub mod Unions

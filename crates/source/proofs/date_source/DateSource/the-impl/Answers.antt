@@ -1,9 +1,0 @@
-use Rattle.source.specs.Dates.{dateDays}
-use Rattle.source.proofs.Climbing.{climbs-ascend, climbs-bounded}
-use Rattle.source.proofs.date_source.DateSource.the-impl.Needs as need
-
-pub ascending-law : need.ascending-law
-ascending-law s = climbs-ascend 0 (dateDays s) (s .sound)
-
-pub bounded-law : need.bounded-law
-bounded-law s = climbs-bounded 0 (dateDays s) (s .sound)
