@@ -13,7 +13,7 @@ use refusal::Refusal;
 use rule::rule_source::RuleSource;
 use rule::rules::Rule;
 use rule_text::reading::read_rule;
-use rule_text::writing::put_rule;
+use rule_lines::writing::put_rule;
 use source::sources::Source;
 use std::error::AnyError;
 use std::fs;

@@ -1,12 +1,2 @@
 pub mod Sames
 pub mod Fielding
-pub mod Separated
-pub mod WrittenNumbers
-pub mod WrittenDays
-pub mod WrittenLists
-pub mod WrittenEntries
-pub mod WrittenParts
-pub mod ReadsBack
-pub mod Chains
-pub mod SameMeaning
-pub mod LinesMean

@@ -3,5 +3,3 @@ pub mod Entries
 pub mod Lists
 pub mod Parts
 pub mod Reading
-pub mod Writing
-pub mod DayLines

@@ -1,9 +1,7 @@
-// The text of a recurrence rule, read and written.
+// The text of a recurrence rule, read.
 mod entries;
-mod entry_texts;
 mod lists;
 mod part_texts;
-mod parts;
+pub mod parts;
 pub mod reading;
 mod words;
-pub mod writing;

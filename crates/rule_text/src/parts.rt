@@ -8,20 +8,20 @@ use rule::parts::MonthDay;
 
 // What UNTIL names: a moment, or digits that name none.
 #[derive(Clone, Copy)]
-pub(crate) enum Limit {
+pub enum Limit {
     At(Moment),
     Nowhere,
 }
 
 // The parts that were read so far.
 #[derive(Clone, Copy)]
-pub(crate) struct Parts {
-    pub(crate) frequency: Option<Frequency>,
-    pub(crate) interval: Option<u32>,
-    pub(crate) week_start: Option<Weekday>,
-    pub(crate) count: Option<u32>,
-    pub(crate) until: Option<Limit>,
-    pub(crate) months: Option<Few<u8>>,
-    pub(crate) month_days: Option<Few<MonthDay>>,
-    pub(crate) week_days: Option<Few<DayEntry>>,
+pub struct Parts {
+    pub frequency: Option<Frequency>,
+    pub interval: Option<u32>,
+    pub week_start: Option<Weekday>,
+    pub count: Option<u32>,
+    pub until: Option<Limit>,
+    pub months: Option<Few<u8>>,
+    pub month_days: Option<Few<MonthDay>>,
+    pub week_days: Option<Few<DayEntry>>,
 }

@@ -1,0 +1,10 @@
+pub mod Separated
+pub mod WrittenNumbers
+pub mod WrittenDays
+pub mod WrittenLists
+pub mod WrittenEntries
+pub mod WrittenParts
+pub mod ReadsBack
+pub mod Chains
+pub mod SameMeaning
+pub mod LinesMean
