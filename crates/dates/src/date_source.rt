@@ -8,11 +8,11 @@ ghost use Rattle.refusal.specs.Numbers.{number};
 ghost use Rattle.dates.specs.Climbs.{climbs, holdable};
 ghost use Rattle.dates.specs.Dates.{dateDays, Split};
 use crate::dates::DateList;
-use source::sources::Source;
 use calendar::days::LAST_DAY;
 use lookup::days::DayKeyed;
 use lookup::find;
 use refusal::Refusal;
+use source::sources::Source;
 
 impl DateList {
     // A date list, or a refusal where there are too many days, one past the last, or one not after the one before it.

@@ -4,8 +4,8 @@ ghost use Rattle.dates.specs.Dates.{dateDays};
 ghost use Rattle.dates.specs.Unions.{merged, sooner, BothSides, Joined};
 use crate::date_source::DateSource;
 use crate::dates::DateList;
-use source::sources::Source;
 use crate::unions::Union;
+use source::sources::Source;
 
 impl<S: Source> Union<S> {
     // A union's days are those of both sides and no other.

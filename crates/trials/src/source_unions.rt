@@ -1,12 +1,12 @@
 // Date lists at their bounds, unions, and the two parts of a cut.
-use source::cuts::parts;
 use dates::date_source::DateSource;
 use dates::dates::DateList;
+use dates::union_source::UnionSource;
+use dates::unions::Union;
+use source::cuts::parts;
 use source::interval_source::IntervalSource;
 use source::intervals::Interval;
 use source::sources::Source;
-use dates::union_source::UnionSource;
-use dates::unions::Union;
 use std::test::*;
 
 fn dates(days: &[u32]) -> Result<DateList, Fail> {
