@@ -1,4 +1,6 @@
 // The program: reads its arguments, prints the event's lines and a last line that says what it did.
+#![tactic(auto)]
+
 use anyhow::anyhow;
 use arguments::jobs::read;
 use arguments::prints::print;

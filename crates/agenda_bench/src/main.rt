@@ -1,4 +1,6 @@
 // What an agenda costs: so many weekly series that began in some year, and the agenda of 2024, so many times.
+#![tactic(auto)]
+
 use anyhow::anyhow;
 use calendar::starts::Moment;
 use dates::dates::DateList;

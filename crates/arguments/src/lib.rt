@@ -1,4 +1,6 @@
 // The command line of the program `agenda`: its six arguments, what is wrong with them, and the job they ask for.
+#![tactic(auto)]
+
 pub mod faults;
 pub mod job;
 pub mod jobs;

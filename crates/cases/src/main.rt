@@ -1,4 +1,6 @@
 // Runs the rules and cuts of tables of outside cases, prints a line for each that fails, and a count at the end.
+#![tactic(auto)]
+
 use calendar::days::{LAST_DAY, date_of};
 use calendar::starts::Moment;
 use notation::dates::read_day;

@@ -1,4 +1,6 @@
 // The diary: many series over any store, with drafts and an agenda.
+#![tactic(auto)]
+
 pub mod calls;
 pub mod diaries;
 pub mod drafts;

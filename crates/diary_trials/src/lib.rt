@@ -1,4 +1,6 @@
 // Tests of the stores and of the diary on examples.
+#![tactic(auto)]
+
 #[cfg(test)]
 mod agendas;
 #[cfg(test)]

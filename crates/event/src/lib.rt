@@ -1,3 +1,5 @@
 // The agenda of one event, over any source of days.
+#![tactic(auto)]
+
 pub mod agendas;
 pub mod plain_series;

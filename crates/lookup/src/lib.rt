@@ -1,4 +1,6 @@
 // The place of a key among ascending records, by halving: proved once for every kind of key.
+#![tactic(auto)]
+
 pub mod days;
 
 ghost use Rattle.std.specs.Result.{MatchResult};

@@ -1,4 +1,6 @@
 // Two parish diaries, each over a table and over a log: what is entered, what is refused and why, and the page of a quarter.
+#![tactic(auto)]
+
 use anyhow::anyhow;
 use calendar::starts::Moment;
 use dates::dates::DateList;

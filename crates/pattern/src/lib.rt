@@ -1,4 +1,6 @@
 // Which days a recurrence picks: its periods, and the days picked in them.
+#![tactic(auto)]
+
 mod entry;
 mod facts;
 mod jumps;

@@ -1,3 +1,5 @@
 // A recurrence as RFC 5545 has it: its parts, and their bounds.
+#![tactic(auto)]
+
 mod fitting;
 pub mod parts;

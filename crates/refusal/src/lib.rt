@@ -1,4 +1,6 @@
 // The refusals of all calls, with their numbers.
+#![tactic(auto)]
+
 ghost use Rattle.std.specs.Prelude.{◌≡◌, ℕ};
 ghost use Rattle.refusal.specs.Numbers.{number as number_of};
 ghost use Rattle.refusal.specs.declared.Refusal.{Refusal as Any};

@@ -1,4 +1,6 @@
 // Recurrence rules as RFC 5545 has them: a start, a pattern of days, and an end.
+#![tactic(auto)]
+
 mod again;
 pub mod known;
 mod listing;

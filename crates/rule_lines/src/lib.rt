@@ -1,3 +1,5 @@
 // The text of a recurrence written, and what the lines of a rule mean.
+#![tactic(auto)]
+
 mod entry_texts;
 pub mod writing;

@@ -1,4 +1,6 @@
 // The text of a recurrence rule, read.
+#![tactic(auto)]
+
 mod entries;
 mod lists;
 mod part_texts;

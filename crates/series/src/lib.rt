@@ -1,4 +1,6 @@
 // The values of a series, with their bounds in their types, and the record of a series.
+#![tactic(auto)]
+
 pub mod alphabets;
 pub mod changes;
 pub mod clocks;

@@ -1,4 +1,6 @@
 // Sources: what gives a series its days.
+#![tactic(auto)]
+
 pub mod asking;
 pub mod cuts;
 pub mod interval_source;

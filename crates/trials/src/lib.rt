@@ -1,4 +1,6 @@
 // Tests of the libraries on examples, in a crate of their own so that the libraries stay quick to prove.
+#![tactic(auto)]
+
 #[cfg(test)]
 mod arguments_words;
 #[cfg(test)]

@@ -1,4 +1,6 @@
 // The next shown occurrence of a series.
+#![tactic(auto)]
+
 pub mod keys;
 pub mod moves;
 pub mod next;
