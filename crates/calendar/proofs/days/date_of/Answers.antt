@@ -9,17 +9,17 @@ use Rattle.calendar.proofs.DateLaws.{some_date, no_date, inverse}
 use Rattle.calendar.proofs.NextDates.{follows}
 use Rattle.calendar.proofs.days.date_of.Goals as goal
 
-pub returns-then-day-gt-LAST-DAY : goal.returns-then-day-gt-LAST-DAY
-returns-then-day-gt-LAST-DAY c = record { value = no_date c.args.day (omega arith); there = λ h. absurd (omega arith); inverse = inverse; follows = follows }
+pub returns-then-day-gt-LAST_DAY : goal.returns-then-day-gt-LAST_DAY
+returns-then-day-gt-LAST_DAY c = record { value = no_date c.args.day (omega arith); there = λ h. absurd (omega arith); inverse = inverse; follows = follows }
 
 pub returns : goal.returns
 unfolding day_of
 returns c =
-    let y = c.year-of-year.ensures in
-    let m = c.month-day-found.ensures in
-    let t : Date = record { year = c.year-of-year.result; month = c.month-day-found.result.month; day = c.month-day-found.result.day } in
-    let l : month_length c.is-leap.result t.month ≡ month_length (is_leap t.year) t.month = cc in
-    let b : before c.is-leap.result (t.month - 1) ≡ before (is_leap t.year) (t.month - 1) = cc in
+    let y = c.year_of-year.ensures in
+    let m = c.month_day-found.ensures in
+    let t : Date = record { year = c.year_of-year.result; month = c.month_day-found.result.month; day = c.month_day-found.result.day } in
+    let l : month_length c.is_leap.result t.month ≡ month_length (is_leap t.year) t.month = cc in
+    let b : before c.is_leap.result (t.month - 1) ≡ before (is_leap t.year) (t.month - 1) = cc in
     let i : IsDate t = record {
       year_low = y.range.0;
       year_high = y.range.1;
@@ -28,7 +28,7 @@ returns c =
       day_low = m.within.0;
       day_high = omega (arith, m.within.1, l);
     } in
-    let o = date_from t c.args.day i (omega (arith, m.day, b, y.within, c.year-start.ensures.value)) in
+    let o = date_from t c.args.day i (omega (arith, m.day, b, y.within, c.year_start.ensures.value)) in
     record {
       value = sym (some_date c.args.day o.0 ∙ ap (λ u. Some u) o.1);
       there = λ h. ap (λ u. Some u) (sym o.1);

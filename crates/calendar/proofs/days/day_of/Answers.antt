@@ -11,17 +11,17 @@ use Rattle.calendar.proofs.days.day_of.Goals as goal
 pub returns-then-date-lt1900 : goal.returns-then-date-lt1900
 returns-then-date-lt1900 c = record { value = no_day c.args.date (λ i. omega arith); bound = tt; inverse = inverse; one = one_day }
 
-pub returns-then-date-length-in : goal.returns-then-date-length-in
-returns-then-date-length-in c =
-    let e : c.length-in.result ≡ month_length (is_leap c.args.date.year) c.args.date.month = cc in
+pub returns-then-date-length_in : goal.returns-then-date-length_in
+returns-then-date-length_in c =
+    let e : c.length_in.result ≡ month_length (is_leap c.args.date.year) c.args.date.month = cc in
     record { value = no_day c.args.date (λ i. omega (arith, i.day_high, e)); bound = tt; inverse = inverse; one = one_day }
 
 pub returns : goal.returns
 unfolding day_of
 returns c =
-    let e : c.length-in.result ≡ month_length (is_leap c.args.date.year) c.args.date.month = cc in
-    let f : c.days-before.result ≡ before (is_leap c.args.date.year) (c.args.date.month - 1) = cc in
-    let m = before_few (is_leap c.args.date.year) (c.args.date.month - 1) (omega (arith, f, c.days-before.ensures.bound)) in
+    let e : c.length_in.result ≡ month_length (is_leap c.args.date.year) c.args.date.month = cc in
+    let f : c.days_before.result ≡ before (is_leap c.args.date.year) (c.args.date.month - 1) = cc in
+    let m = before_few (is_leap c.args.date.year) (c.args.date.month - 1) (omega (arith, f, c.days_before.ensures.bound)) in
     let i : IsDate c.args.date = record {
       year_low = omega arith;
       year_high = omega arith;
@@ -30,7 +30,7 @@ returns c =
       day_low = omega arith;
       day_high = omega (arith, e);
     } in
-    let k : day_of c.args.date ≡ c.year-start.result + c.days-before.result + (c.args.date.day - 1) = omega (arith, f, c.year-start.ensures.value) in
+    let k : day_of c.args.date ≡ c.year_start.result + c.days_before.result + (c.args.date.day - 1) = omega (arith, f, c.year_start.ensures.value) in
     record {
       value = sym (some_day c.args.date _ i k);
       bound = omega (arith, (date_from c.args.date _ i k).0);

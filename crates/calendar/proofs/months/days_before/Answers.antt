@@ -9,5 +9,5 @@ loop-m-init c = (sym (before_none c.args.leap), omega arith)
 pub loop-m-preserved : goal.loop-m-preserved
 loop-m-preserved c =
     let i = c.loop-m.invariant in
-    let m = c.length-in.ensures in
+    let m = c.length_in.ensures in
     (omega (arith, i.0, m.value, month_step c.args.leap c.loop-m.m (omega arith)), omega (arith, i.1, m.bound))

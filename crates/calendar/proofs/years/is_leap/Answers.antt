@@ -4,4 +4,4 @@ use Rattle.calendar.proofs.years.is_leap.Goals as goal
 
 pub returns : goal.returns
 unfolding is_leap
-returns c = c.leap-by.ensures
+returns c = c.leap_by.ensures
