@@ -9,4 +9,4 @@ blank xs true e = nil_from_length xs (eqb-true (length xs) 0 (sym e))
 blank xs false e = above (length xs) (eqb-false (length xs) 0 (sym e))
 
 pub returns : goal.returns
-returns c = blank c.args.octets.now c.is-empty.result c.is-empty.ensures
+returns c = blank c.args.octets.now c.is_empty.result c.is_empty.ensures

@@ -12,8 +12,8 @@ loop-rest-init c =
       omega arith,
     )
 
-pub overflow-sub-at : goal.overflow-sub-at
-overflow-sub-at c = let i = c.loop-rest.invariant in omega (arith, i.1, decimal_nonempty c.loop-rest.rest (omega (arith, i.3)))
+pub overflow_sub-at : goal.overflow_sub-at
+overflow_sub-at c = let i = c.loop-rest.invariant in omega (arith, i.1, decimal_nonempty c.loop-rest.rest (omega (arith, i.3)))
 
 pub loop-rest-smaller : goal.loop-rest-smaller
 loop-rest-smaller c = let i = c.loop-rest.invariant in omega (arith, i.1, decimal_nonempty c.loop-rest.rest (omega (arith, i.3)))

@@ -15,24 +15,24 @@ loop-piece-preserved c =
     let xs = c.args.pieces.now in
     let i = c.loop-piece.piece-index in
     let v = c.loop-piece.invariant in
-    let h = c.in-ok-put.ensures in
+    let h = c.in_ok-put.ensures in
     let d : Bor (List ℕ) = record { ref_ptr = (0, 0); now = [] } in (
       rw (joined_push (λ x. x.now) xs i d (omega arith))
           (added_more (flat_map (λ x. x.now) (take i xs)) (get_or xs i d).now c.args.octets.now c.loop-piece.octets c.put.new.octets c.args.len.now c.loop-piece.len c.put.new.len c.loop-piece.auto.octets v.0 h.cases),
       kept_more (flat_map (λ x. x.now) (take i xs)) c.args.octets.now c.loop-piece.octets c.put.new.octets c.args.len.now c.loop-piece.len v.0 v.1 h.kept,
     )
 
-pub returns-in-err-put : goal.returns-in-err-put
-returns-in-err-put c =
+pub returns-in_err-put : goal.returns-in_err-put
+returns-in_err-put c =
     let xs = c.args.pieces.now in
     let i = c.loop-piece.piece-index in
     let v = c.loop-piece.invariant in
     let d : Bor (List ℕ) = record { ref_ptr = (0, 0); now = [] } in
-    let p = err_from_is_err_and c.from-residual.result c.from-residual.ensures.1 in
+    let p = err_from_is_err_and c.from_residual.result c.from_residual.ensures.1 in
     rw (p.1, p.2) (record {
-      kept = kept_more (flat_map (λ x. x.now) (take i xs)) c.args.octets.now c.loop-piece.octets c.put.new.octets c.args.len.now c.loop-piece.len v.0 v.1 c.in-err-put.ensures.kept;
+      kept = kept_more (flat_map (λ x. x.now) (take i xs)) c.args.octets.now c.loop-piece.octets c.put.new.octets c.args.len.now c.loop-piece.len v.0 v.1 c.in_err-put.ensures.kept;
       cases = short_more (flat_map (λ x. x.now) (take i xs)) (get_or xs i d).now (flat_map (λ x. x.now) xs) c.args.octets.now c.loop-piece.octets c.args.len.now c.loop-piece.len c.put.new.len _ c.loop-piece.auto.octets
-          (joined_within (λ x. x.now) xs i d (omega arith)) v.0 c.in-err-put.ensures.cases;
+          (joined_within (λ x. x.now) xs i d (omega arith)) v.0 c.in_err-put.ensures.cases;
     })
 
 pub returns : goal.returns
