@@ -2,8 +2,8 @@
 ghost use Rattle.std.specs.Prelude.{◌≤◌};
 ghost use Rattle.calendar.specs.Years.{last_day};
 
-use event::plain_series::PlainSeries;
 use rule::rules::Rule;
+use series::records::Series;
 use series::uids::Uid;
 use source::intervals::Interval;
 
@@ -20,7 +20,7 @@ pub struct Window {
 #[derive(Clone, Copy)]
 pub struct Job<S> {
     pub uid: Uid,
-    pub series: PlainSeries<S>,
+    pub series: Series<S>,
     pub window: Window,
 }
 

@@ -9,9 +9,9 @@ use crate::words::{
     check_count, read_duration, read_recurring, read_start, read_text, read_timing, read_uid,
     read_window,
 };
-use event::plain_series::PlainSeries;
 use rule::rules::Rule;
 use series::clocks::Clock;
+use series::records::Series;
 use source::intervals::Interval;
 
 // The job of six words: the first that is refused decides.
@@ -32,7 +32,7 @@ fn read_six(
     let window = read_window(first, last)?;
     Ok(Job {
         uid,
-        series: PlainSeries {
+        series: Series {
             source: timed.interval,
             clock: timed.clock,
             duration,
@@ -63,7 +63,7 @@ fn read_seven(
     match Clock::new(start.clock as u32) {
         Ok(clock) => Ok(Job {
             uid,
-            series: PlainSeries {
+            series: Series {
                 source,
                 clock,
                 duration,

@@ -1,7 +1,7 @@
 -- What it means that nothing is refused of an entry.
 use Rattle.std.proofs.Common.{◌≡◌, ℕ, ◌+◌, ◌<◌, ◌≤◌, Bool, true, false, cond, not, ltb, leb, List, length, is_some, Some, None, Option, sym, refl, ap, ◌∙◌, arith}
 use Rattle.series.specs.declared.overrides.Overrides.{Overrides}
-use Rattle.series.specs.declared.records.Series.{Series}
+use Rattle.series.specs.declared.stored.StoredSeries.{StoredSeries}
 use Rattle.store.specs.declared.pairs.Pair.{Pair}
 use Rattle.store.specs.Pairs.{key, held}
 use Rattle.diary.specs.declared.drafts.Slot.{Slot}
@@ -16,7 +16,7 @@ module _ {S : Type 0} (days : S → List ℕ) (limit : ℕ) (pairs : List (Pair 
   pub accepted_free : (uid : List ℕ) (source : S) (overrides : Overrides) → state_refusal days limit pairs slots uid source overrides ≡ None → held uid pairs ≡ None
   accepted_free uid source overrides e = go (held uid pairs) _ e
     where
-      go : (v : Option (Series S)) (rest : Option ℕ) → cond (is_some v) (Some 12) rest ≡ None → v ≡ None
+      go : (v : Option (StoredSeries S)) (rest : Option ℕ) → cond (is_some v) (Some 12) rest ≡ None → v ≡ None
       go None rest e = refl
       go (Some s) rest e = absurd (some_none 12 e)
 

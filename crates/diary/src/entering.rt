@@ -14,7 +14,7 @@ use refusal::Refusal;
 use series::changes::Override;
 use series::clocks::Clock;
 use series::durations::Duration;
-use series::records::Series;
+use series::stored::StoredSeries;
 use series::stamps::Stamp;
 use series::texts::Text;
 use series::uids::Uid;
@@ -34,7 +34,7 @@ pub(crate) fn pair_of<S: Copy>(uid: &[u8], entry: &Entry<S>) -> Result<Pair<S>, 
     let stamp = Stamp::new(entry.stamp)?;
     Ok(Pair {
         uid,
-        series: Series {
+        series: StoredSeries {
             source: entry.source,
             clock,
             duration,

@@ -1,11 +1,11 @@
-// Series, pairs and entries that the tests share.
+// StoredSeries, pairs and entries that the tests share.
 use diary::entries::Entry;
 use refusal::Refusal;
 use series::changes::{Alteration, Change, Override};
 use series::clocks::Clock;
 use series::durations::Duration;
 use series::overrides::Overrides;
-use series::records::Series;
+use series::stored::StoredSeries;
 use series::stamps::Stamp;
 use series::texts::Text;
 use series::uids::Uid;
@@ -23,7 +23,7 @@ pub fn sundays() -> Result<Interval, Refusal> {
 pub fn pair(uid: &[u8]) -> Result<Pair<Interval>, Refusal> {
     Ok(Pair {
         uid: Uid::new(uid)?,
-        series: Series {
+        series: StoredSeries {
             source: sundays()?,
             clock: Clock::new(1110)?,
             duration: Duration::new(45)?,

@@ -2,12 +2,13 @@
 use Rattle.std.specs.Prelude.{◌≡◌, ℕ, ◌+◌, ◌<◌, Bool, true, cond, ◌&&◌, List, length, Some, None, filter, Option, nat_le, nat_lt}
 use Rattle.std.specs.List.{flat_map}
 use Rattle.calendar.specs.Dates.{date_of}
-use Rattle.calendar.specs.Starts.{start_of, is_window}
+use Rattle.calendar.specs.Starts.{start_of}
+pub use Rattle.calendar.specs.Starts.{is_window}
 use Rattle.page.specs.Lines.{line_text}
 use Rattle.page.specs.Pages.{Added}
 use Rattle.refusal.specs.declared.Refusal.{Refusal}
 use Rattle.refusal.specs.Numbers.{number as number_of}
-use Rattle.event.specs.declared.plain_series.PlainSeries.{PlainSeries}
+use Rattle.series.specs.declared.records.Series.{Series}
 use Rattle.series.specs.declared.uids.Uid.{Uid}
 use Rattle.series.specs.Values.{text_octets, uid_octets}
 
@@ -22,26 +23,26 @@ early clock end (Some d) = cond (nat_lt (start_of d clock) end) (Some d) None
 
 module _ {S : Type 0} where
   -- the line of the occurrence on day d
-  abbrev pub day_line : Uid → PlainSeries S → ℕ → List ℕ
+  abbrev pub day_line : Uid → Series S → ℕ → List ℕ
   day_line u s d = line_text (date_of d) s.clock.minute s.duration.minutes (uid_octets u) (text_octets s.text)
 
   module _ (days : S → List ℕ) where
     -- the event's days that start in the window
-    abbrev pub shown_days : PlainSeries S → ℕ → ℕ → List ℕ
+    abbrev pub shown_days : Series S → ℕ → ℕ → List ℕ
     shown_days s from end = filter (in_window s.clock.minute from end) (days s.source)
 
     -- their lines, one behind the other
-    abbrev pub agenda_text : Uid → PlainSeries S → ℕ → ℕ → List ℕ
+    abbrev pub agenda_text : Uid → Series S → ℕ → ℕ → List ℕ
     agenda_text u s from end = flat_map (day_line u s) (shown_days s from end)
 
     -- n lines were printed
-    pub record Printed (u : Uid) (s : PlainSeries S) (from end n : ℕ) (o p : List ℕ) (l m : ℕ) : Type 0 where
+    pub record Printed (u : Uid) (s : Series S) (from end n : ℕ) (o p : List ℕ) (l m : ℕ) : Type 0 where
       pub window : is_window from end ≡ true
       pub lines : n ≡ length (shown_days s from end)
       pub page : Added (agenda_text u s from end) o p l m
 
     -- nothing was printed: 24 where there is no such window, else 23 where the lines do not fit
-    pub record Refused (u : Uid) (s : PlainSeries S) (from end : ℕ) (o : List ℕ) (l m : ℕ) (e : Refusal) : Type 0 where
+    pub record Refused (u : Uid) (s : Series S) (from end : ℕ) (o : List ℕ) (l m : ℕ) (e : Refusal) : Type 0 where
       pub number : number_of e ≡ cond (is_window from end) 23 24
       pub short : is_window from end ≡ true → length o < l + length (agenda_text u s from end)
       pub len : m ≡ l

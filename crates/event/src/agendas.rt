@@ -5,12 +5,12 @@ ghost use Rattle.page.specs.Pages.{Added, Full, Kept, Short};
 ghost use Rattle.source.specs.Days.{first_from};
 ghost use Rattle.event.specs.Agenda.{day_line, agenda_text, shown_days, early, Printed, Refused};
 
-use crate::plain_series::PlainSeries;
 use calendar::days::date_of;
 use calendar::starts::{DAY_MINUTES, STARTS_END};
 use page::lines::put_line;
 use page::pages::Guard;
 use refusal::Refusal;
+use series::records::Series;
 use series::uids::Uid;
 use source::sources::Source;
 
@@ -19,7 +19,7 @@ fn put_day<S>(
     octets: &mut [u8],
     len: &mut usize,
     uid: &Uid,
-    series: &PlainSeries<S>,
+    series: &Series<S>,
     day: u32,
 ) -> Result<(), Refusal>
     requires { day ≤ last_day }
@@ -55,7 +55,7 @@ fn first_day(from: u32, clock: u16) -> u32
 }
 
 // The first day at or after a number whose occurrence starts before the end, or none.
-fn next_shown<S: Source>(series: &PlainSeries<S>, next: u32, end: u32) -> Option<u32>
+fn next_shown<S: Source>(series: &Series<S>, next: u32, end: u32) -> Option<u32>
     ensures { result ≡ early series.now.clock.minute end (first_from next (S.Source.days series.now.source)) }
 {
     let day = series.source.first_at(next)?;
@@ -68,7 +68,7 @@ fn next_shown<S: Source>(series: &PlainSeries<S>, next: u32, end: u32) -> Option
 // Adds the lines of a window day by day; a refusal leaves those before it.
 fn put_days<S: Source>(
     uid: &Uid,
-    series: &PlainSeries<S>,
+    series: &Series<S>,
     from: u32,
     end: u32,
     octets: &mut [u8],
@@ -91,7 +91,7 @@ fn put_days<S: Source>(
 // The event's lines for the occurrences that start in a window, and their number.
 pub fn agenda<S: Source>(
     uid: &Uid,
-    series: &PlainSeries<S>,
+    series: &Series<S>,
     from: u32,
     end: u32,
     octets: &mut [u8],

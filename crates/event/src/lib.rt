@@ -2,4 +2,3 @@
 #![tactic(auto)]
 
 pub mod agendas;
-pub mod plain_series;

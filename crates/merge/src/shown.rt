@@ -14,7 +14,7 @@ use calendar::starts::DAY_MINUTES;
 use page::lines::put_line;
 use refusal::Refusal;
 use series::changes::Change;
-use series::records::Series;
+use series::stored::StoredSeries;
 use series::texts::Text;
 use series::uids::Uid;
 use source::sources::Source;
@@ -22,7 +22,7 @@ use store::stores::Store;
 use tournament::nodes::Node;
 
 // The text that the occurrence of a day shows: an altered one its own.
-fn shown_text<S>(series: &Series<S>, day: u32) -> Text
+fn shown_text<S>(series: &StoredSeries<S>, day: u32) -> Text
     ensures { text_octets result ≡ text_by (mark_on (overrides_of series.now.overrides) day) (text_octets series.now.text) }
 {
     if let Some(change) = series.overrides.change_on(day) {
@@ -38,7 +38,7 @@ fn put_occurrence<S: Source>(
     octets: &mut [u8],
     len: &mut usize,
     uid: &Uid,
-    series: &Series<S>,
+    series: &StoredSeries<S>,
     start: u32,
     day: u32,
 ) -> Result<(), Refusal>

@@ -3,7 +3,7 @@ use Rattle.std.specs.Prelude.{ℕ, Bool, true, false, List, map, take}
 use Rattle.calendar.specs.Starts.{start_of}
 use Rattle.series.specs.declared.changes.Override.{Override}
 use Rattle.series.specs.declared.overrides.Overrides.{Overrides}
-use Rattle.series.specs.declared.records.Series.{Series}
+use Rattle.series.specs.declared.stored.StoredSeries.{StoredSeries}
 use Rattle.series.specs.Marks.{Mark, plain, cancelled, altered, mark_on}
 use Rattle.series.specs.Values.{text_octets}
 
@@ -66,5 +66,5 @@ module _ {S : Type 0} (days : S → List ℕ) where
   abbrev pub plan_from : S → ℕ → ℕ → List ℕ → Overrides → Plan
   plan_from source clock duration text m = record { days = days source; clock = clock; duration = duration; text = text; marks = mark_on (overrides_of m) }
 
-  abbrev pub plan_of : Series S → Plan
+  abbrev pub plan_of : StoredSeries S → Plan
   plan_of s = plan_from s.source s.clock.minute s.duration.minutes (text_octets s.text) s.overrides

@@ -12,6 +12,7 @@ pub mod rooms;
 pub mod shown_texts;
 pub mod stamp_octets;
 pub mod stamps;
+pub mod stored;
 pub mod text_octets;
 pub mod texts;
 pub mod uid_octets;

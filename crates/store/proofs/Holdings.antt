@@ -4,7 +4,7 @@ use Rattle.std.specs.List.{AllByRecursion as All}
 use Rattle.std.specs.Str.{bytes_eq}
 use Rattle.std.specs.Option.{option_map}
 use Rattle.std.proofs.ByRecursion.{All-weaker}
-use Rattle.series.specs.declared.records.Series.{Series}
+use Rattle.series.specs.declared.stored.StoredSeries.{StoredSeries}
 use Rattle.series.specs.Members.{Ordered}
 use Rattle.series.specs.Order.{Ahead, precedes}
 use Rattle.series.proofs.Orders.{chain}
@@ -135,7 +135,7 @@ module _ {S : Type 0} where
       (same_tells (key p) u)
 
   -- how many there are then
-  pub length_held : (q : Pair S) (ps : List (Pair S)) (s : Series S) → Ascends ps → held (key q) ps ≡ Some s → length (placed q ps) ≡ length ps
+  pub length_held : (q : Pair S) (ps : List (Pair S)) (s : StoredSeries S) → Ascends ps → held (key q) ps ≡ Some s → length (placed q ps) ≡ length ps
   length_held q [] s h e = let z : ◌≡◌ {A = ℕ} 0 1 = cc in absurd (omega arith)
   length_held q (p ∷ ps) s h e =
       ⊎_elim
@@ -163,7 +163,7 @@ module _ {S : Type 0} where
       r)
       (ways (key q) (key p))
 
-  pub length_without : (u : List ℕ) (ps : List (Pair S)) (s : Series S) → held u ps ≡ Some s → suc (length (without u ps)) ≡ length ps
+  pub length_without : (u : List ℕ) (ps : List (Pair S)) (s : StoredSeries S) → held u ps ≡ Some s → suc (length (without u ps)) ≡ length ps
   length_without u [] s e = let z : ◌≡◌ {A = ℕ} 0 1 = cc in absurd (omega arith)
   length_without u (p ∷ ps) s e =
       ⊎_elim

@@ -1,7 +1,7 @@
 -- Pairs of UID and series, and how they change.
 use Rattle.std.specs.Prelude.{◌≡◌, ℕ, zero, suc, ◌<◌, ◌≤◌, cond, List, [], ◌∷◌, length, Some, None, Option}
 use Rattle.std.specs.Str.{bytes_eq}
-use Rattle.series.specs.declared.records.Series.{Series}
+use Rattle.series.specs.declared.stored.StoredSeries.{StoredSeries}
 use Rattle.series.specs.Members.{Ordered}
 use Rattle.series.specs.Order.{Ahead, precedes}
 use Rattle.series.specs.Values.{uid_octets}
@@ -30,7 +30,7 @@ module _ {S : Type 0} where
   place_of u ps = place_from 0 u ps
 
   -- the series of a UID, or none
-  abbrev pub held : List ℕ → List (Pair S) → Option (Series S)
+  abbrev pub held : List ℕ → List (Pair S) → Option (StoredSeries S)
   held u [] = None
   held u (p ∷ ps) = cond (bytes_eq (key p) u) (Some p.series) (held u ps)
 

@@ -7,14 +7,14 @@ ghost use Rattle.store.specs.Keys.{ahead_apart, behind_apart};
 
 use crate::orders::order;
 use lookup::Keyed;
-use series::records::Series;
+use series::stored::StoredSeries;
 use series::uids::Uid;
 use std::cmp::Ordering;
 
 #[derive(Clone, Copy)]
 pub struct Pair<S> {
     pub uid: Uid,
-    pub series: Series<S>,
+    pub series: StoredSeries<S>,
 }
 
 impl<S> Keyed for Pair<S> {

@@ -1,17 +1,17 @@
 // The agenda of one event at the edges of its window and of its page.
 use event::agendas::agenda;
-use event::plain_series::PlainSeries;
 use refusal::Refusal;
 use series::clocks::Clock;
 use series::durations::Duration;
+use series::records::Series;
 use series::texts::Text;
 use series::uids::Uid;
 use source::intervals::Interval;
 use std::test::Fail;
 
 // Evensong on 7 and 21 January and 4 February 2024, at 18:30.
-fn evensong() -> Result<PlainSeries<Interval>, Refusal> {
-    Ok(PlainSeries {
+fn evensong() -> Result<Series<Interval>, Refusal> {
+    Ok(Series {
         source: Interval::new(45_296, 14, 3)?,
         clock: Clock::new(1110)?,
         duration: Duration::new(45)?,

@@ -1,12 +1,12 @@
 // What one change replaced.
-use series::records::Series;
+use series::stored::StoredSeries;
 use series::uids::Uid;
 
 // What a UID had before the change: its series, or none.
 #[derive(Clone, Copy)]
 pub struct Former<S> {
     pub uid: Uid,
-    pub series: Option<Series<S>>,
+    pub series: Option<StoredSeries<S>>,
 }
 
 // A change touches one UID, or two where a series is split.

@@ -6,12 +6,12 @@ ghost use Rattle.upcoming.specs.Shown.{Shows};
 use crate::keys::Key;
 use crate::moves::better_of;
 use crate::plains::{has, next_plain};
-use series::records::Series;
+use series::stored::StoredSeries;
 use source::sources::Source;
 
 // The next live occurrence from (start, day) on that starts before the end.
 // An altered one counts by its own start, wherever its day lies; the source is asked for it only where it would be the answer.
-pub fn next_in<S: Source>(series: &Series<S>, start: u32, day: u32, end: u32) -> Option<Key>
+pub fn next_in<S: Source>(series: &StoredSeries<S>, start: u32, day: u32, end: u32) -> Option<Key>
     ensures { Next (Shows (plan_of S.Source.days series.now)) start day end result }
 {
     let mut best = next_plain(series, start, day, end);

@@ -8,7 +8,7 @@ ghost use Rattle.upcoming.specs.Least.{Next};
 use crate::keys::Key;
 use crate::orders::first_day;
 use calendar::starts::DAY_MINUTES;
-use series::records::Series;
+use series::stored::StoredSeries;
 use source::sources::Source;
 
 // Whether the source has the day.
@@ -23,7 +23,7 @@ pub(crate) fn has<S: Source>(source: &S, day: u32) -> bool
 }
 
 // The first day from a number on that has no override.
-pub(crate) fn first_plain<S: Source>(series: &Series<S>, day: u32) -> Option<u32>
+pub(crate) fn first_plain<S: Source>(series: &StoredSeries<S>, day: u32) -> Option<u32>
     ensures { PlainFrom (plan_of S.Source.days series.now) day result }
 {
     let mut from = day;
@@ -38,7 +38,7 @@ pub(crate) fn first_plain<S: Source>(series: &Series<S>, day: u32) -> Option<u32
 
 // The next occurrence without an override.
 pub(crate) fn next_plain<S: Source>(
-    series: &Series<S>,
+    series: &StoredSeries<S>,
     start: u32,
     day: u32,
     end: u32,
