@@ -1,7 +1,8 @@
 -- The order of UIDs is total, and `cmp` of octets answers by it.
 use Rattle.std.proofs.Common.{◌≡◌, ℕ, ◌<◌, Bool, true, false, ◌&&◌, ◌||◌, eqb, ltb, ◌⊎◌, List, [], ◌∷◌, Decides, Ordering, Less, Equal, Greater, sym, refl, ap, ◌∙◌, subst, inl, inr, ⊎_elim, arith}
-use Rattle.std.specs.Cmp.Lexicographic.{Lex}
-use Rattle.std.specs.Ordering.{MatchOrdering}
+use Rattle.std.specs.Cmp.Lexicographic.{slice_cmp}
+use Rattle.std.specs.Cmp.{ranks as firsts}
+use Rattle.std.specs.Ordering.{MatchOrdering, nat_cmp, ordering_then}
 use Rattle.std.proofs.lemmas.Bool.Decides.{nat_tests}
 use Rattle.series.specs.Order.{Ahead, precedes}
 
@@ -44,28 +45,29 @@ trichotomy (x ∷ xs) (y ∷ ys) = first (ltb x y) refl (trichotomy xs ys)
     first true t ih = let l : x < y = grind (arith, nat_tests) in inl (inl l)
     first false t ih = let n : x < y → ⊥ = grind (arith, nat_tests) in second (ltb y x) refl n ih
 
+-- what the first octets say, with what the rest says
 again : (x y : ℕ) (xs ys : List ℕ) (r : Ordering) → x ≡ y → MatchOrdering r (Ahead xs ys) (xs ≡ ys) (Ahead ys xs) → MatchOrdering r (Ahead (x ∷ xs) (y ∷ ys)) ((x ∷ xs) ≡ (y ∷ ys)) (Ahead (y ∷ ys) (x ∷ xs))
 again x y xs ys Less e h = inr (e, h)
 again x y xs ys Equal e h = cc
 again x y xs ys Greater e h = inr (sym e, h)
 
--- what the first octets say, with what the rest says
-step : (x y : ℕ) (xs ys : List ℕ) (r k : Ordering) (rest : Lex (λ a b k. MatchOrdering k (a < b) (a ≡ b) (b < a)) xs ys r → MatchOrdering r (Ahead xs ys) (xs ≡ ys) (Ahead ys xs)) → MatchOrdering k (x < y) (x ≡ y) (y < x) → MatchOrdering k (r ≡ Less) (Lex (λ a b k. MatchOrdering k (a < b) (a ≡ b) (b < a)) xs ys r) (r ≡ Greater) → MatchOrdering r (Ahead (x ∷ xs) (y ∷ ys)) ((x ∷ xs) ≡ (y ∷ ys)) (Ahead (y ∷ ys) (x ∷ xs))
-step x y xs ys r Less rest p q = subst (λ (o : Ordering). MatchOrdering o (Ahead (x ∷ xs) (y ∷ ys)) ((x ∷ xs) ≡ (y ∷ ys)) (Ahead (y ∷ ys) (x ∷ xs))) (sym q) (inl p)
-step x y xs ys r Equal rest p q = again x y xs ys r p (rest q)
-step x y xs ys r Greater rest p q = subst (λ (o : Ordering). MatchOrdering o (Ahead (x ∷ xs) (y ∷ ys)) ((x ∷ xs) ≡ (y ∷ ys)) (Ahead (y ∷ ys) (x ∷ xs))) (sym q) (inl p)
+step : (x y : ℕ) (xs ys : List ℕ) (k r : Ordering) → MatchOrdering k (x < y) (x ≡ y) (y < x) → MatchOrdering r (Ahead xs ys) (xs ≡ ys) (Ahead ys xs) → MatchOrdering (ordering_then k r) (Ahead (x ∷ xs) (y ∷ ys)) ((x ∷ xs) ≡ (y ∷ ys)) (Ahead (y ∷ ys) (x ∷ xs))
+step x y xs ys Less r p h = inl p
+step x y xs ys Equal r p h = again x y xs ys r p h
+step x y xs ys Greater r p h = inl p
 
-ranks : (xs ys : List ℕ) (r : Ordering) → Lex (λ a b k. MatchOrdering k (a < b) (a ≡ b) (b < a)) xs ys r → MatchOrdering r (Ahead xs ys) (xs ≡ ys) (Ahead ys xs)
-ranks [] [] r e = subst (λ (o : Ordering). MatchOrdering o ⊥ (◌≡◌ {A = List ℕ} [] []) ⊥) (sym e) refl
-ranks [] (y ∷ ys) r e = subst (λ (o : Ordering). MatchOrdering o (Unit {0}) ([] ≡ (y ∷ ys)) ⊥) (sym e) tt
-ranks (x ∷ xs) [] r e = subst (λ (o : Ordering). MatchOrdering o ⊥ ((x ∷ xs) ≡ []) (Unit {0})) (sym e) tt
-ranks (x ∷ xs) (y ∷ ys) r h = step x y xs ys r h.0 (ranks xs ys r) h.1 h.2
+ranks : (xs ys : List ℕ) → MatchOrdering (slice_cmp nat_cmp xs ys) (Ahead xs ys) (xs ≡ ys) (Ahead ys xs)
+ranks [] [] = refl
+ranks [] (y ∷ ys) = tt
+ranks (x ∷ xs) [] = tt
+ranks (x ∷ xs) (y ∷ ys) = step x y xs ys (nat_cmp x y) (slice_cmp nat_cmp xs ys) (firsts x y) (ranks xs ys)
 
 -- what `cmp` says of the octets that two calls gave
-pub ranks_at : {xs ys us vs : List ℕ} (r : Ordering) → us ≡ xs → vs ≡ ys → Lex (λ a b k. MatchOrdering k (a < b) (a ≡ b) (b < a)) us vs r → MatchOrdering r (Ahead xs ys) (xs ≡ ys) (Ahead ys xs)
+pub ranks_at : {xs ys us vs : List ℕ} (r : Ordering) → us ≡ xs → vs ≡ ys → r ≡ slice_cmp nat_cmp us vs → MatchOrdering r (Ahead xs ys) (xs ≡ ys) (Ahead ys xs)
 ranks_at {xs} {ys} {us} {vs} r e f h =
-    subst (λ (v : List ℕ). MatchOrdering r (Ahead xs v) (xs ≡ v) (Ahead v xs)) f
-    (subst (λ (u : List ℕ). MatchOrdering r (Ahead u vs) (u ≡ vs) (Ahead vs u)) e (ranks us vs r h))
+    subst (λ (o : Ordering). MatchOrdering o (Ahead xs ys) (xs ≡ ys) (Ahead ys xs)) (sym h)
+    (subst (λ (v : List ℕ). MatchOrdering (slice_cmp nat_cmp us vs) (Ahead xs v) (xs ≡ v) (Ahead v xs)) f
+    (subst (λ (u : List ℕ). MatchOrdering (slice_cmp nat_cmp us vs) (Ahead u vs) (u ≡ vs) (Ahead vs u)) e (ranks us vs)))
 
 -- the test is the relation
 pub precedes_ahead : (xs ys : List ℕ) → precedes xs ys ≡ true → Ahead xs ys

@@ -6,19 +6,19 @@ use Rattle.pattern.proofs.Periods.{year_opens}
 use Rattle.pattern.proofs.Ahead.{opens_at}
 use Rattle.pattern.proofs.jumps.opening_of.Goals as goal
 
-pub month-opening-requires : goal.month-opening-requires
-month-opening-requires c = (omega (arith, c.requires.0, ap least c.in-Monthly.is), omega (arith, c.requires.1, ap most c.in-Monthly.is))
+pub month_opening-requires : goal.month_opening-requires
+month_opening-requires c = (omega (arith, c.requires.0, ap least c.in-Monthly.is), omega (arith, c.requires.1, ap most c.in-Monthly.is))
 
 pub returns-in-Monthly : goal.returns-in-Monthly
 returns-in-Monthly c =
     let p = c.args.pattern.now in
     let w = weekday_number p.week_start in
-    opens_at p.frequency Monthly w c.args.number c.month-opening.result c.in-Monthly.is (c.month-opening.ensures.opens w)
+    opens_at p.frequency Monthly w c.args.number c.month_opening.result c.in-Monthly.is (c.month_opening.ensures.opens w)
 
 pub returns-in-Yearly : goal.returns-in-Yearly
 returns-in-Yearly c =
     let p = c.args.pattern.now in
-    let e = c.month-start.ensures in
+    let e = c.month_start.ensures in
     let l : 1900 ≤ c.args.number = omega (arith, c.requires.0, ap least c.in-Yearly.is) in
-    opens_at p.frequency Yearly (weekday_number p.week_start) c.args.number c.month-start.result c.in-Yearly.is
-    (year_opens (weekday_number p.week_start) c.args.number c.month-start.result l e.there e.past)
+    opens_at p.frequency Yearly (weekday_number p.week_start) c.args.number c.month_start.result c.in-Yearly.is
+    (year_opens (weekday_number p.week_start) c.args.number c.month_start.result l e.there e.past)

@@ -4,4 +4,4 @@ use Rattle.calendar.proofs.MonthDays.{before_none}
 use Rattle.pattern.proofs.picking.new_year.Goals as goal
 
 pub returns : goal.returns
-returns c = omega (arith, c.month-start.ensures.there c.requires.1, before_none (is_leap c.args.year))
+returns c = omega (arith, c.month_start.ensures.there c.requires.1, before_none (is_leap c.args.year))
