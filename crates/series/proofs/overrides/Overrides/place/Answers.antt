@@ -6,13 +6,13 @@ use Rattle.series.proofs.overrides.Overrides.place.Goals as goal
 
 pub find-requires : goal.find-requires
 find-requires c =
-    let e = c.as-slice.ensures in
-    fit_rises 0 c.as-slice.result.now (subst (λ (os : List Override). overrides_fit 0 os ≡ true) (sym e) c.args.self.now.sound)
+    let e = c.as_slice.ensures in
+    fit_rises 0 c.as_slice.result.now (subst (λ (os : List Override). overrides_fit 0 os ≡ true) (sym e) c.args.self.now.sound)
 
 pub returns-in-Ok : goal.returns-in-Ok
 returns-in-Ok c =
-    let e = c.as-slice.ensures in
-    let os = c.as-slice.result.now in
+    let e = c.as_slice.ensures in
+    let os = c.as_slice.result.now in
     let p = c.in-Ok.ensures in
     let i = c.in-Ok.place in
     let fit : overrides_fit 0 os ≡ true = subst (λ (xs : List Override). overrides_fit 0 xs ≡ true) (sym e) c.args.self.now.sound in
@@ -21,4 +21,4 @@ returns-in-Ok c =
 pub returns-in-Err : goal.returns-in-Err
 returns-in-Err c =
     let p = c.in-Err.ensures in
-    subst (λ (xs : List Override). Place xs c.args.day None) c.as-slice.ensures (mark_none c.as-slice.result.now c.args.day p.none)
+    subst (λ (xs : List Override). Place xs c.args.day None) c.as_slice.ensures (mark_none c.as_slice.result.now c.args.day p.none)
