@@ -18,19 +18,19 @@ never : (a : Date) → ◌≡◌ {A = Option Date} None (Some a) → ⊥
 never a e = let z : ◌≡◌ {A = ℕ} 0 1 = cc in omega arith
 
 pub unreachable-requires : goal.unreachable-requires
-unreachable-requires g c = never (date_of c.args.day) (c.in-default.ensures.value ∙ there c.args.day c.requires)
+unreachable-requires g c = never (date_of c.args.day) (c.in_default.ensures.value ∙ there c.args.day c.requires)
 
 pub returns : goal.returns
 returns g c =
     let d : c.in-Some.date ≡ date_of c.args.day = same c.in-Some.date (date_of c.args.day) (c.in-Some.ensures.value ∙ there c.args.day c.requires) in
-    let e : line_text c.in-Some.date c.minute.result c.minutes.result c.as-bytes.result.now c.as-bytes-2.result.now ≡ day_line c.args.uid.now c.args.series.now c.args.day =
-    λ j. line_text (d j) (c.minute.ensures.value j) (c.minutes.ensures j) (c.as-bytes.ensures j) (c.as-bytes-2.ensures j) in
+    let e : line_text c.in-Some.date c.minute.result c.minutes.result c.as_bytes.result.now c.as_bytes-2.result.now ≡ day_line c.args.uid.now c.args.series.now c.args.day =
+    λ j. line_text (d j) (c.minute.ensures.value j) (c.minutes.ensures j) (c.as_bytes.ensures j) (c.as_bytes-2.ensures j) in
     record {
-      kept = c.put-line.ensures.kept;
+      kept = c.put_line.ensures.kept;
       cases =
           subst
           (λ (w : List ℕ).
-          MatchResult c.put-line.result (λ _. Added w c.args.octets.now c.put-line.new.octets c.args.len.now c.put-line.new.len)
-          (λ r. Full w c.args.octets.now c.args.len.now c.put-line.new.len r))
-          e c.put-line.ensures.cases;
+          MatchResult c.put_line.result (λ _. Added w c.args.octets.now c.put_line.new.octets c.args.len.now c.put_line.new.len)
+          (λ r. Full w c.args.octets.now c.args.len.now c.put_line.new.len r))
+          e c.put_line.ensures.cases;
     }
