@@ -11,20 +11,20 @@ returns-then-stop-start c = record {
 
 pub returns-then-found-stop : goal.returns-then-found-stop
 returns-then-found-stop c =
-    let e = c.next-day-found.ensures in
+    let e = c.next_day-found.ensures in
     let i = c.loop-left.invariant in
     record {
       low = omega arith;
-      value = settle_out (chooses c.args.pattern.now c.args.start) c.args.start c.args.count c.loop-left.day c.args.stop c.next-day-found.result c.loop-left.left i.0
+      value = settle_out (chooses c.args.pattern.now c.args.start) c.args.start c.args.count c.loop-left.day c.args.stop c.next_day-found.result c.loop-left.left i.0
           (record { low = e.range.0; high = e.range.1; passed = e.passed; found = e.found }) (omega arith) i.2;
     }
 
 pub loop-left-preserved : goal.loop-left-preserved
 loop-left-preserved c =
-    let e = c.next-day-found.ensures in
+    let e = c.next_day-found.ensures in
     let i = c.loop-left.invariant in (
       omega (arith, i.0, e.range.0),
       omega (arith, e.range.1),
-      settle_more (chooses c.args.pattern.now c.args.start) c.args.start c.args.count c.loop-left.day c.args.stop c.next-day-found.result c.loop-left.left i.0
+      settle_more (chooses c.args.pattern.now c.args.start) c.args.start c.args.count c.loop-left.day c.args.stop c.next_day-found.result c.loop-left.left i.0
           (record { low = e.range.0; high = e.range.1; passed = e.passed; found = e.found }) (omega (arith, e.range.1)) (omega arith) i.2,
     )

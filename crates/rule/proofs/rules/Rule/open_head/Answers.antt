@@ -5,26 +5,19 @@ use Rattle.rule.proofs.Ends.{open_end}
 use Rattle.rule.specs.Cuts.{until_settled, until_days, recount_none, reuntil_none}
 use Rattle.rule.proofs.rules.Rule.open_head.Goals as goal
 
-pub invariant-of-result : goal.invariant-of-result
-invariant-of-result c =
+pub invariant_of-result : goal.invariant_of-result
+invariant_of-result c =
     let r = c.args.self.now in
     let g = r.range in
-    let s = c.requires.1.1 in (
-      (g.0, omega (arith, g.1, c.min.ensures, s), omega (arith, g.2, s)),
-      (
-        r.parts,
-        (
-          r.begins,
-          (
-            refl,
-            (
-              open_end c.args.until,
-              (until_settled r.pattern r.start r.until r.count r.end r.settled c.requires.0 c.args.day c.min.result c.args.until c.min.ensures s, tt),
-            ),
-          ),
-        ),
-      ),
-    )
+    let s = c.requires.1.1 in
+    record {
+      range = (g.0, omega (arith, g.1, c.min.ensures, s), omega (arith, g.2, s));
+      parts = r.parts;
+      begins = r.begins;
+      few = refl;
+      ends = open_end c.args.until;
+      settled = until_settled r.pattern r.start r.until r.count r.end r.settled c.requires.0 c.args.day c.min.result c.args.until c.min.ensures s;
+    }
 
 pub returns : goal.returns
 returns c =

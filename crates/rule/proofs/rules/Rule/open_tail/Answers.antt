@@ -6,27 +6,20 @@ use Rattle.rule.proofs.Ends.{open_end}
 use Rattle.rule.specs.Cuts.{open_settled, open_days, first_some, recount_none, at_some, halves_by}
 use Rattle.rule.proofs.rules.Rule.open_tail.Goals as goal
 
-pub invariant-of-result : goal.invariant-of-result
-invariant-of-result c =
+pub invariant_of-result : goal.invariant_of-result
+invariant_of-result c =
     let r = c.args.self.now in
     let g = r.range in
     let x = c.requires.0 in
-    let l = c.requires.1.0 in (
-      (omega (arith, g.1, g.2, l), g.1, g.2),
-      (
-        r.parts,
-        (
-          moved r.pattern r.start c.args.first (x.found l) c.args.first ∙ x.found l,
-          (
-            refl,
-            (
-              open_end r.until,
-              (open_settled r.pattern r.start r.until r.count r.end r.settled c.requires.1.1 c.args.day c.args.first x l, tt),
-            ),
-          ),
-        ),
-      ),
-    )
+    let l = c.requires.1.0 in
+    record {
+      range = (omega (arith, g.1, g.2, l), g.1, g.2);
+      parts = r.parts;
+      begins = moved r.pattern r.start c.args.first (x.found l) c.args.first ∙ x.found l;
+      few = refl;
+      ends = open_end r.until;
+      settled = open_settled r.pattern r.start r.until r.count r.end r.settled c.requires.1.1 c.args.day c.args.first x l;
+    }
 
 pub returns : goal.returns
 returns c =

@@ -2,4 +2,4 @@ use Rattle.rule.proofs.Remaking.{remakes}
 use Rattle.rule.proofs.rules.Rule.recurrence.Goals as goal
 
 pub returns : goal.returns
-returns c = record { value = c.recurrence-of.ensures; remakes = remakes c.args.self.now }
+returns c = record { value = c.recurrence_of.ensures; remakes = remakes c.args.self.now }
