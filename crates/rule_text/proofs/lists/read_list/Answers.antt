@@ -26,33 +26,33 @@ loop-field-preserved g c =
     let b = c.in-Some.rest.now in
     let m = g.T.Entry.named in (
       c.loop-field.invariant.0 ∙ ap (λ fs. entries_named m fs c.loop-field.few) (more_fields 44 t a b c.in-Some.ensures)
-          ∙ ap (λ (o : Option g.row.T.Denot). if_some o (λ x. entries_named m (fields_at 44 b) (pushed c.loop-field.few x))) (sym c.in-ok-entry-2.ensures)
+          ∙ ap (λ (o : Option g.row.T.Denot). if_some o (λ x. entries_named m (fields_at 44 b) (pushed c.loop-field.few x))) (sym c.in_ok-entry-2.ensures)
           ∙ ap (entries_named m (fields_at 44 b)) (sym c.push-few.ensures),
       omega (arith, c.loop-field.invariant.1, rest_shorter 44 t a b c.in-Some.ensures, ap (λ (f : Few g.row.T.Denot). f.len) c.push-few.ensures),
     )
 
-pub returns-in-err-entry : goal.returns-in-err-entry
-returns-in-err-entry g c =
+pub returns-in_err-entry : goal.returns-in_err-entry
+returns-in_err-entry g c =
     let t = c.loop-field.text.now in
     let m = g.T.Entry.named in
-    rw c.from-residual.ensures
-    (sym (c.loop-field.invariant.0 ∙ ap (λ fs. entries_named m fs c.loop-field.few) (one_field 44 t c.in-default.ensures)
-    ∙ ap (λ (o : Option g.row.T.Denot). if_some o (λ x. entries_named m [] (pushed c.loop-field.few x))) (sym c.in-err-entry.ensures)))
+    rw c.from_residual.ensures
+    (sym (c.loop-field.invariant.0 ∙ ap (λ fs. entries_named m fs c.loop-field.few) (one_field 44 t c.in_default.ensures)
+    ∙ ap (λ (o : Option g.row.T.Denot). if_some o (λ x. entries_named m [] (pushed c.loop-field.few x))) (sym c.in_err-entry.ensures)))
 
-pub returns-in-err-entry-2 : goal.returns-in-err-entry-2
-returns-in-err-entry-2 g c =
+pub returns-in_err-entry-2 : goal.returns-in_err-entry-2
+returns-in_err-entry-2 g c =
     let t = c.loop-field.text.now in
     let a = c.in-Some.field.now in
     let b = c.in-Some.rest.now in
     let m = g.T.Entry.named in
-    rw c.from-residual-in-err-entry-2.ensures
+    rw c.from_residual-in_err-entry-2.ensures
     (sym (c.loop-field.invariant.0 ∙ ap (λ fs. entries_named m fs c.loop-field.few) (more_fields 44 t a b c.in-Some.ensures)
-    ∙ ap (λ (o : Option g.row.T.Denot). if_some o (λ x. entries_named m (fields_at 44 b) (pushed c.loop-field.few x))) (sym c.in-err-entry-2.ensures)))
+    ∙ ap (λ (o : Option g.row.T.Denot). if_some o (λ x. entries_named m (fields_at 44 b) (pushed c.loop-field.few x))) (sym c.in_err-entry-2.ensures)))
 
-pub returns-in-default : goal.returns-in-default
-returns-in-default g c =
+pub returns-in_default : goal.returns-in_default
+returns-in_default g c =
     let t = c.loop-field.text.now in
     let m = g.T.Entry.named in
-    sym (c.loop-field.invariant.0 ∙ ap (λ fs. entries_named m fs c.loop-field.few) (one_field 44 t c.in-default.ensures)
-    ∙ ap (λ (o : Option g.row.T.Denot). if_some o (λ x. entries_named m [] (pushed c.loop-field.few x))) (sym c.in-ok-entry.ensures)
+    sym (c.loop-field.invariant.0 ∙ ap (λ fs. entries_named m fs c.loop-field.few) (one_field 44 t c.in_default.ensures)
+    ∙ ap (λ (o : Option g.row.T.Denot). if_some o (λ x. entries_named m [] (pushed c.loop-field.few x))) (sym c.in_ok-entry.ensures)
     ∙ ap (λ (f : Few g.row.T.Denot). Some f) (sym c.push.ensures))
