@@ -35,32 +35,32 @@ written : {S : Type 0} (days : S → List ℕ) (j : Job S) (n : ℕ) (a b : Date
 unfolding summary
 written days j n a b p q r = λ i. summary_text (p i) (same a (date_of j.window.first) q i) (same b (date_of j.window.last) r i)
 
-pub returns-in-err-lines : goal.returns-in-err-lines
-returns-in-err-lines g c =
+pub returns-in_err-lines : goal.returns-in_err-lines
+returns-in_err-lines g c =
     let j = c.args.job.now in
     let ds = g.S.Source.days in
-    let p = err_from_is_err_and c.from-residual.result c.from-residual.ensures.1 in
-    let k = c.in-err-lines.ensures in
+    let p = err_from_is_err_and c.from_residual.result c.from_residual.ensures.1 in
+    let k = c.in_err-lines.ensures in
     let w = window j in
     let e = length-append (agenda_text ds j.uid j.series (from_of j) (end_of j)) (summary_text (job_lines ds j) (date_of j.window.first) (date_of j.window.last)) in
     rw (p.1, p.2) (record { kept = k.kept; cases = record { short = omega (arith, k.cases.short w, e); number = rw w at k.cases.number } })
 
-pub returns-in-err-put-summary : goal.returns-in-err-put-summary
+pub returns-in_err-put_summary : goal.returns-in_err-put_summary
 unfolding lines summary
-returns-in-err-put-summary g c =
+returns-in_err-put_summary g c =
     let j = c.args.job.now in
     let ds = g.S.Source.days in
-    let p = err_from_is_err_and c.from-residual-in-err-put-summary.result c.from-residual-in-err-put-summary.ensures.1 in
-    let a = c.in-ok-lines.ensures in
-    let k = c.in-err-put-summary.ensures in
-    let s = written ds j c.in-ok-lines.lines c.in-Some-Some.first c.in-Some-Some.last a.cases.lines (c.in-Some-Some.ensures.there (omega arith)) (c.in-Some-Some.ensures'.there (omega arith)) in
+    let p = err_from_is_err_and c.from_residual-in_err-put_summary.result c.from_residual-in_err-put_summary.ensures.1 in
+    let a = c.in_ok-lines.ensures in
+    let k = c.in_err-put_summary.ensures in
+    let s = written ds j c.in_ok-lines.lines c.in-Some-Some.first c.in-Some-Some.last a.cases.lines (c.in-Some-Some.ensures.there (omega arith)) (c.in-Some-Some.ensures'.there (omega arith)) in
     let o = c.args.octets.now in
     let l = c.args.len.now in
-    let f : Full (summary ds j) c.agenda.new.octets c.agenda.new.len c.put-summary.new.len c.in-err-put-summary.field-0.0 =
-    subst (λ (w : List ℕ). Full w c.agenda.new.octets c.agenda.new.len c.put-summary.new.len c.in-err-put-summary.field-0.0) s k.cases in
+    let f : Full (summary ds j) c.agenda.new.octets c.agenda.new.len c.put_summary.new.len c.in_err-put_summary.field-0.0 =
+    subst (λ (w : List ℕ). Full w c.agenda.new.octets c.agenda.new.len c.put_summary.new.len c.in_err-put_summary.field-0.0) s k.cases in
     rw (p.1, p.2) (record {
-      kept = kept_more (lines ds j) o c.agenda.new.octets c.put-summary.new.octets l c.agenda.new.len a.cases.page a.kept k.kept;
-      cases = short_more (lines ds j) (summary ds j) (job_text ds j) o c.agenda.new.octets l c.agenda.new.len c.put-summary.new.len c.in-err-put-summary.field-0.0
+      kept = kept_more (lines ds j) o c.agenda.new.octets c.put_summary.new.octets l c.agenda.new.len a.cases.page a.kept k.kept;
+      cases = short_more (lines ds j) (summary ds j) (job_text ds j) o c.agenda.new.octets l c.agenda.new.len c.put_summary.new.len c.in_err-put_summary.field-0.0
           c.agenda.auto.octets (omega (arith, length-append (lines ds j) (summary ds j))) a.cases.page f;
     })
 
@@ -69,14 +69,14 @@ unfolding lines summary
 returns g c =
     let j = c.args.job.now in
     let ds = g.S.Source.days in
-    let a = c.in-ok-lines.ensures in
-    let k = c.in-ok-put-summary.ensures in
-    let s = written ds j c.in-ok-lines.lines c.in-Some-Some.first c.in-Some-Some.last a.cases.lines (c.in-Some-Some.ensures.there (omega arith)) (c.in-Some-Some.ensures'.there (omega arith)) in
+    let a = c.in_ok-lines.ensures in
+    let k = c.in_ok-put_summary.ensures in
+    let s = written ds j c.in_ok-lines.lines c.in-Some-Some.first c.in-Some-Some.last a.cases.lines (c.in-Some-Some.ensures.there (omega arith)) (c.in-Some-Some.ensures'.there (omega arith)) in
     let o = c.args.octets.now in
     let l = c.args.len.now in
-    let f : Added (summary ds j) c.agenda.new.octets c.put-summary.new.octets c.agenda.new.len c.put-summary.new.len =
-    subst (λ (w : List ℕ). Added w c.agenda.new.octets c.put-summary.new.octets c.agenda.new.len c.put-summary.new.len) s k.cases in
+    let f : Added (summary ds j) c.agenda.new.octets c.put_summary.new.octets c.agenda.new.len c.put_summary.new.len =
+    subst (λ (w : List ℕ). Added w c.agenda.new.octets c.put_summary.new.octets c.agenda.new.len c.put_summary.new.len) s k.cases in
     record {
-      kept = kept_more (lines ds j) o c.agenda.new.octets c.put-summary.new.octets l c.agenda.new.len a.cases.page a.kept k.kept;
-      cases = (a.cases.lines, added_more (lines ds j) (summary ds j) o c.agenda.new.octets c.put-summary.new.octets l c.agenda.new.len c.put-summary.new.len c.agenda.auto.octets a.cases.page f);
+      kept = kept_more (lines ds j) o c.agenda.new.octets c.put_summary.new.octets l c.agenda.new.len a.cases.page a.kept k.kept;
+      cases = (a.cases.lines, added_more (lines ds j) (summary ds j) o c.agenda.new.octets c.put_summary.new.octets l c.agenda.new.len c.put_summary.new.len c.agenda.auto.octets a.cases.page f);
     }

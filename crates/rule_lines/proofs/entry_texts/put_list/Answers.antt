@@ -8,8 +8,8 @@ use Rattle.rule_lines.specs.Writing.{list_text}
 use Rattle.rule_lines.proofs.Chains.{mark_at, list_more, list_within, short_full, short_within}
 use Rattle.rule_lines.proofs.entry_texts.put_list.Goals as goal
 
-pub returns-in-err-put : goal.returns-in-err-put
-returns-in-err-put g c =
+pub returns-in_err-put : goal.returns-in_err-put
+returns-in_err-put g c =
     let text = g.T.Written.text in
     let name = c.args.name.now in
     let xs = c.args.list.now in
@@ -21,15 +21,15 @@ returns-in-err-put g c =
     let a = list_text name text (take i xs) in
     let h = list_within name text xs i x (omega arith) c.entry-item.is in
     let l : length a + length c.loop-entry.mark.now ≤ length (list_text name text xs) = omega (arith, h, length-append (mark_at name i) (text x), ap length v.2) in
-    let p = err_from_is_err_and c.from-residual.result c.from-residual.ensures.1 in
+    let p = err_from_is_err_and c.from_residual.result c.from_residual.ensures.1 in
     rw (p.1, p.2) (record {
-      kept = kept_more a o c.loop-entry.octets c.put.new.octets n c.loop-entry.len v.0 v.1 c.in-err-put.ensures.kept;
+      kept = kept_more a o c.loop-entry.octets c.put.new.octets n c.loop-entry.len v.0 v.1 c.in_err-put.ensures.kept;
       cases = short_within a c.loop-entry.mark.now (list_text name text xs) o c.loop-entry.octets n c.loop-entry.len _ c.loop-entry.auto.octets l v.0
-          (short_full c.in-err-put.ensures.cases);
+          (short_full c.in_err-put.ensures.cases);
     })
 
-pub returns-in-err-put-on : goal.returns-in-err-put-on
-returns-in-err-put-on g c =
+pub returns-in_err-put_on : goal.returns-in_err-put_on
+returns-in_err-put_on g c =
     let text = g.T.Written.text in
     let name = c.args.name.now in
     let xs = c.args.list.now in
@@ -40,15 +40,15 @@ returns-in-err-put-on g c =
     let n = c.args.len.now in
     let a = list_text name text (take i xs) in
     let b = c.loop-entry.mark.now in
-    let s = c.in-ok-put.ensures in
+    let s = c.in_ok-put.ensures in
     let h = list_within name text xs i x (omega arith) c.entry-item.is in
     let l : length (a ++ b) + length (text x) ≤ length (list_text name text xs) = omega (arith, h, length-append a b, length-append (mark_at name i) (text x), ap length v.2) in
     let t = added_more a b o c.loop-entry.octets c.put.new.octets n c.loop-entry.len c.put.new.len c.loop-entry.auto.octets v.0 s.cases in
     let k = kept_more a o c.loop-entry.octets c.put.new.octets n c.loop-entry.len v.0 v.1 s.kept in
-    let p = err_from_is_err_and c.from-residual-in-err-put-on.result c.from-residual-in-err-put-on.ensures.1 in
+    let p = err_from_is_err_and c.from_residual-in_err-put_on.result c.from_residual-in_err-put_on.ensures.1 in
     rw (p.1, p.2) (record {
-      kept = kept_more (a ++ b) o c.put.new.octets c.put-on.new.octets n c.put.new.len t k c.in-err-put-on.ensures.kept;
-      cases = short_within (a ++ b) (text x) (list_text name text xs) o c.put.new.octets n c.put.new.len _ (c.put.auto.octets ∙ c.loop-entry.auto.octets) l t c.in-err-put-on.ensures.cases;
+      kept = kept_more (a ++ b) o c.put.new.octets c.put_on.new.octets n c.put.new.len t k c.in_err-put_on.ensures.kept;
+      cases = short_within (a ++ b) (text x) (list_text name text xs) o c.put.new.octets n c.put.new.len _ (c.put.auto.octets ∙ c.loop-entry.auto.octets) l t c.in_err-put_on.ensures.cases;
     })
 
 pub loop-entry-preserved : goal.loop-entry-preserved
@@ -62,14 +62,14 @@ loop-entry-preserved g c =
     let o = c.args.octets.now in
     let n = c.args.len.now in
     let a = list_text name text (take i xs) in
-    let s = c.in-ok-put.ensures in
-    let w = c.in-ok-put-on.ensures in
+    let s = c.in_ok-put.ensures in
+    let w = c.in_ok-put_on.ensures in
     let m = subst (λ z. Added z c.loop-entry.octets c.put.new.octets c.loop-entry.len c.put.new.len) v.2 s.cases in
-    let t = added_more (mark_at name i) (text x) c.loop-entry.octets c.put.new.octets c.put-on.new.octets c.loop-entry.len c.put.new.len c.put-on.new.len c.put.auto.octets m w.cases in
-    let k = kept_more (mark_at name i) c.loop-entry.octets c.put.new.octets c.put-on.new.octets c.loop-entry.len c.put.new.len m s.kept w.kept in (
-      subst (λ z. Added z o c.put-on.new.octets n c.put-on.new.len) (sym (list_more name text xs i x (omega arith) c.entry-item.is))
-          (added_more a (mark_at name i ++ text x) o c.loop-entry.octets c.put-on.new.octets n c.loop-entry.len c.put-on.new.len c.loop-entry.auto.octets v.0 t),
-      kept_more a o c.loop-entry.octets c.put-on.new.octets n c.loop-entry.len v.0 v.1 k,
+    let t = added_more (mark_at name i) (text x) c.loop-entry.octets c.put.new.octets c.put_on.new.octets c.loop-entry.len c.put.new.len c.put_on.new.len c.put.auto.octets m w.cases in
+    let k = kept_more (mark_at name i) c.loop-entry.octets c.put.new.octets c.put_on.new.octets c.loop-entry.len c.put.new.len m s.kept w.kept in (
+      subst (λ z. Added z o c.put_on.new.octets n c.put_on.new.len) (sym (list_more name text xs i x (omega arith) c.entry-item.is))
+          (added_more a (mark_at name i ++ text x) o c.loop-entry.octets c.put_on.new.octets n c.loop-entry.len c.put_on.new.len c.loop-entry.auto.octets v.0 t),
+      kept_more a o c.loop-entry.octets c.put_on.new.octets n c.loop-entry.len v.0 v.1 k,
       rw (ne_eqb (i + 1) 0 (λ e. omega arith)) refl,
     )
 
