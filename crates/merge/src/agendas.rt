@@ -26,7 +26,7 @@ fn put_lines<St: Store>(
 ) -> Result<usize, Refusal>
     requires { (is_window from end ≡ true) × ((len.old ≤ length octets.old) × (2 * length (St.Store.pairs store.now) ≤ length nodes.old)) }
     ensures kept { Kept octets.old octets.new len.old }
-    ensures cases { MatchResult result (λ n. Printed (occurrences (plans_of Source-as-Source.days (St.Store.pairs store.now))) from end n octets.old octets.new len.old len.new) (λ e. (number e ≡ 23) × NoneFits (occurrences (plans_of Source-as-Source.days (St.Store.pairs store.now))) from end octets.old len.old) }
+    ensures cases { MatchResult result (λ n. Printed (occurrences (plans_of St.Source.Source.days (St.Store.pairs store.now))) from end n octets.old octets.new len.old len.new) (λ e. (number e ≡ 23) × NoneFits (occurrences (plans_of St.Source.Source.days (St.Store.pairs store.now))) from end octets.old len.old) }
 {
     let count = store.count();
     if count == 0 {
@@ -59,7 +59,7 @@ pub fn agenda<St: Store>(
     len: &mut usize,
 ) -> Result<usize, Refusal>
     ensures kept { Kept octets.old octets.new len.old }
-    ensures cases { 2 * length (St.Store.pairs store.now) ≤ length nodes.old → MatchResult result (λ n. Printed (occurrences (plans_of Source-as-Source.days (St.Store.pairs store.now))) from end n octets.old octets.new len.old len.new) (λ e. Refused (occurrences (plans_of Source-as-Source.days (St.Store.pairs store.now))) from end octets.old len.old len.new e) }
+    ensures cases { 2 * length (St.Store.pairs store.now) ≤ length nodes.old → MatchResult result (λ n. Printed (occurrences (plans_of St.Source.Source.days (St.Store.pairs store.now))) from end n octets.old octets.new len.old len.new) (λ e. Refused (occurrences (plans_of St.Source.Source.days (St.Store.pairs store.now))) from end octets.old len.old len.new e) }
     ensures crowded { length nodes.old < 2 * length (St.Store.pairs store.now) → MatchResult result (λ _. ⊥) (λ e. Crowded from end len.old len.new e) }
 {
     if from > end || end > STARTS_END {

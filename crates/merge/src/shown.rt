@@ -68,9 +68,9 @@ pub(crate) fn put_node<St: Store>(
     store: &St,
     top: Node,
 ) -> Result<(), Refusal>
-    requires { (top.start < starts_end) × (ShowsAt Source-as-Source.days (St.Store.pairs store.now) top.place top.start top.day) }
+    requires { (top.start < starts_end) × (ShowsAt St.Source.Source.days (St.Store.pairs store.now) top.place top.start top.day) }
     ensures kept { Kept octets.old octets.new len.old }
-    ensures cases { MatchResult result (λ _. Added (occurrence_line (named Source-as-Source.days (St.Store.pairs store.now) top)) octets.old octets.new len.old len.new) (λ e. Full (occurrence_line (named Source-as-Source.days (St.Store.pairs store.now) top)) octets.old len.old len.new e) }
+    ensures cases { MatchResult result (λ _. Added (occurrence_line (named St.Source.Source.days (St.Store.pairs store.now) top)) octets.old octets.new len.old len.new) (λ e. Full (occurrence_line (named St.Source.Source.days (St.Store.pairs store.now) top)) octets.old len.old len.new e) }
 {
     let Some(pair) = store.at(top.place) else {
         unreachable();

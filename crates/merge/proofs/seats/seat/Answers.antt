@@ -9,7 +9,7 @@ use Rattle.merge.proofs.seats.seat.Goals as goal
 
 pub loop-place-preserved : goal.loop-place-preserved
 loop-place-preserved g c = λ p h.
-    let P : ℕ → ℕ → ℕ → Type 0 = ShowsAt g.Source.Source.days (g.St.Store.pairs c.args.store.now) in
+    let P : ℕ → ℕ → ℕ → Type 0 = ShowsAt g.St.Source.Source.days (g.St.Store.pairs c.args.store.now) in
     let t = c.loop-place.nodes in
     let n = c.args.count in
     let k = c.loop-place.place in
