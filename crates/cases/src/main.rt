@@ -95,14 +95,14 @@ fn rule_holds(row: &[u8]) -> bool {
     let Some(start) = start_of_row(row) else {
         return false;
     };
-    let picked = field(row, 3) == b"yes";
+    let picked = field(row, 3) == b"yes".as_slice();
     match read_rule(field(row, 2), start) {
         Err(refusal) => !picked && refusal.number() == 11,
         Ok(rule) => {
             let Some(next) = begins_with(&rule, field(row, 5)) else {
                 return false;
             };
-            picked && (field(row, 4) == b"no" || rule.first_at(next).is_none())
+            picked && (field(row, 4) == b"no".as_slice() || rule.first_at(next).is_none())
         }
     }
 }
@@ -147,7 +147,7 @@ fn cut_holds(row: &[u8]) -> bool {
     let Some(count) = numeral_of(field(row, 5), 1, 6) else {
         return false;
     };
-    let part = if field(row, 4) == b"head" {
+    let part = if field(row, 4) == b"head".as_slice() {
         rule.head(day)
     } else {
         rule.tail(day)

@@ -4,14 +4,14 @@ use Rattle.source.specs.Days.{among}
 use Rattle.diary.specs.Entries.{on_days}
 use Rattle.diary.proofs.entering.on_days.Goals as goal
 
-pub returns-then-not-has-day : goal.returns-then-not-has-day
-returns-then-not-has-day g c =
+pub returns-then-not-has_day : goal.returns-then-not-has_day
+returns-then-not-has_day g c =
     let days = g.S.Source.days c.args.source.now in
     let xs = c.args.overrides.now in
     let i = c.loop-item.item-index in
     let s = c.item-item.result in
     let e : on_days (drop i xs) days ≡ (among (get_or xs i s).day days && on_days (drop (i + 1) xs) days) = at_drop_more (λ os. on_days os days) xs i s (omega arith) in
-    let f : among (get_or xs i s).day days ≡ false = ap (λ t. among t.day days) (sym c.item-item.is) ∙ sym c.has-day.ensures ∙ c.if-not-has-day.true in
+    let f : among (get_or xs i s).day days ≡ false = ap (λ t. among t.day days) (sym c.item-item.is) ∙ sym c.has_day.ensures ∙ c.if-not-has_day.true in
     sym (sym c.loop-item.invariant ∙ e ∙ ap (λ b. b && on_days (drop (i + 1) xs) days) f)
 
 pub loop-item-preserved : goal.loop-item-preserved
@@ -21,7 +21,7 @@ loop-item-preserved g c =
     let i = c.loop-item.item-index in
     let s = c.item-item.result in
     let e : on_days (drop i xs) days ≡ (among (get_or xs i s).day days && on_days (drop (i + 1) xs) days) = at_drop_more (λ os. on_days os days) xs i s (omega arith) in
-    let f : among (get_or xs i s).day days ≡ true = ap (λ t. among t.day days) (sym c.item-item.is) ∙ sym c.has-day.ensures ∙ c.if-not-has-day.false in
+    let f : among (get_or xs i s).day days ≡ true = ap (λ t. among t.day days) (sym c.item-item.is) ∙ sym c.has_day.ensures ∙ c.if-not-has_day.false in
     sym (e ∙ ap (λ b. b && on_days (drop (i + 1) xs) days) f) ∙ c.loop-item.invariant
 
 pub returns : goal.returns

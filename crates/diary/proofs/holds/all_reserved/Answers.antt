@@ -9,8 +9,8 @@ loop-slot-preserved c =
     let i = c.loop-slot.slot-index in
     let s = c.slot-item.result in
     let e : all_reserved (drop i xs) ≡ length (reserved_by (get_or xs i s)) + all_reserved (drop (i + 1) xs) = at_drop_more all_reserved xs i s (omega arith) in
-    let f : c.slot-reserves-places.result ≡ length (reserved_by (get_or xs i s)) = c.slot-reserves-places.ensures.places ∙ ap (λ t. length (reserved_by t)) c.slot-item.is in
-    let few = c.slot-reserves-places.ensures.few in
+    let f : c.slot_reserves-places.result ≡ length (reserved_by (get_or xs i s)) = c.slot_reserves-places.ensures.places ∙ ap (λ t. length (reserved_by t)) c.slot-item.is in
+    let few = c.slot_reserves-places.ensures.few in
     let inv = c.loop-slot.invariant.0 in
     let low = c.loop-slot.invariant.1 in
     (omega arith, omega arith)

@@ -6,12 +6,12 @@ use Rattle.diary.proofs.diaries.Diary.agenda.Goals as goal
 
 pub returns : goal.returns
 returns g c =
-    let days = g.Source.Source.days in
+    let days = g.St.Source.Source.days in
     let store = c.args.self.now.store in
     let pairs = g.St.Store.pairs store in
     let slots = c.args.self.now.drafts.slots in
     let few : length pairs ≤ g.St.Store.limit store = g.met.St.Store.bounded store in
-    let long : length c.as-mut-slice.result.now ≡ vec_len c.args.self.now.nodes = c.as-mut-slice.ensures.len in
+    let long : length c.as_mut_slice.result.now ≡ vec_len c.args.self.now.nodes = c.as_mut_slice.ensures.len in
     let cases = λ (room : 2 * g.St.Store.limit store ≤ vec_len c.args.self.now.nodes). c.agenda.ensures.cases (omega arith) in
     record {
       kept = c.agenda.ensures.kept;

@@ -13,7 +13,7 @@ use Rattle.diary.proofs.diaries.Diary.enter.Goals as goal
 
 pub returns : goal.returns
 returns g c =
-    let days = g.Source.Source.days in
+    let days = g.St.Source.Source.days in
     let store = c.args.self.now.store in
     let old = g.St.Store.pairs store in
     let new = g.St.Store.pairs c.put.new.self in
@@ -22,11 +22,11 @@ returns g c =
     let log = c.args.log.now in
     let uid = c.args.uid.now in
     let e = c.args.entry.now in
-    let q = c.in-ok-pair.pair in
-    let m = c.in-ok-pair.ensures.1 in
-    let fits = c.in-ok-pair.ensures.0 in
+    let q = c.in_ok-pair.pair in
+    let m = c.in_ok-pair.ensures.1 in
+    let fits = c.in_ok-pair.ensures.0 in
     let long : ltb log.places 16 ≡ false = le-ltb log.places 16 (subst (λ (n : ℕ). 16 ≤ n) c.places.ensures c.if-places-lt-REMEMBERED.false) in
-    let none : state_refusal days limit old slots (key q) q.series.source q.series.overrides ≡ None = sym c.refused.ensures ∙ ap (option_map number) c.in-default.is in
+    let none : state_refusal days limit old slots (key q) q.series.source q.series.overrides ≡ None = sym c.refused.ensures ∙ ap (option_map number) c.in_default.is in
     let free : held uid old ≡ None = ap (λ u. held u old) (sym m.uid_is) ∙ accepted_free days limit old slots (key q) q.series.source q.series.overrides none in
     let entered : Entered uid e old new log c.remember.new.self = record {
       pair = q;
