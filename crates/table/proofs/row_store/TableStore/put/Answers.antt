@@ -7,13 +7,13 @@ use Rattle.table.specs.Rows.{climbs}
 use Rattle.table.specs.Climbing.{ascends, climb}
 use Rattle.table.proofs.row_store.TableStore.put.Goals as goal
 
-pub invariant-of-self : goal.invariant-of-self
-invariant-of-self g c =
+pub invariant_of-self : goal.invariant_of-self
+invariant_of-self g c =
     let t = c.args.self.now in
     let ps = vec_items t.rows in
     let q = c.args.pair in
     let up = ascends ps t.rising in
-    (t.few, (t.reserved, (ap climbs (set_placed q ps c.in-Ok.place up c.in-Ok.ensures.1) ∙ climb _ (ascends_placed q ps up), tt)))
+    record { few = t.few; reserved = t.reserved; rising = ap climbs (set_placed q ps c.in-Ok.place up c.in-Ok.ensures.1) ∙ climb _ (ascends_placed q ps up) }
 
 pub returns-in-Ok : goal.returns-in-Ok
 returns-in-Ok g c =
@@ -30,17 +30,17 @@ returns-then-len-self g c =
       capacity = refl;
     }
 
-pub invariant-of-self-in-Err : goal.invariant-of-self-in-Err
-invariant-of-self-in-Err g c =
+pub invariant_of-self-else-is_err : goal.invariant_of-self-else-is_err
+invariant_of-self-else-is_err g c =
     let t = c.args.self.now in
     let ps = vec_items t.rows in
     let q = c.args.pair in
     let ok : is_ok c.insert.result ≡ true = c.insert.ensures.succeeds (omega arith) in
     let n : vec_len c.insert.new.self ≡ vec_len t.rows + 1 = c.insert.ensures.len ∙ cond-true (is_ok c.insert.result) _ _ ok in
-    (omega arith, (omega (arith, c.insert.ensures.capacity), (ap climbs (c.insert.ensures.items ∙ cond-true (is_ok c.insert.result) _ _ ok ∙ inserted_placed q ps c.in-Err.place c.in-Err.ensures.1) ∙ climb _ (ascends_placed q ps (ascends ps t.rising)), tt)))
+    record { few = omega arith; reserved = omega (arith, c.insert.ensures.capacity); rising = ap climbs (c.insert.ensures.items ∙ cond-true (is_ok c.insert.result) _ _ ok ∙ inserted_placed q ps c.in-Err.place c.in-Err.ensures.1) ∙ climb _ (ascends_placed q ps (ascends ps t.rising)) }
 
-pub returns-else-is-err : goal.returns-else-is-err
-returns-else-is-err g c =
+pub returns-else-is_err : goal.returns-else-is_err
+returns-else-is_err g c =
     let ok : is_ok c.insert.result ≡ true = c.insert.ensures.succeeds (omega arith) in
     record {
       cases = c.insert.ensures.items ∙ cond-true (is_ok c.insert.result) _ _ ok ∙ inserted_placed c.args.pair (vec_items c.args.self.now.rows) c.in-Err.place c.in-Err.ensures.1;

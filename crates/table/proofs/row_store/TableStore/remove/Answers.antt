@@ -6,13 +6,13 @@ use Rattle.table.specs.Rows.{climbs}
 use Rattle.table.specs.Climbing.{ascends, climb}
 use Rattle.table.proofs.row_store.TableStore.remove.Goals as goal
 
-pub invariant-of-self : goal.invariant-of-self
-invariant-of-self g c =
+pub invariant_of-self : goal.invariant_of-self
+invariant_of-self g c =
     let t = c.args.self.now in
     let ps = vec_items t.rows in
     let u = uid_octets c.args.uid.now in
     let up = ascends ps t.rising in
-    (omega arith, (omega arith, (ap climbs (c.remove.ensures.items ∙ removed_without u ps c.in-Ok.place up c.in-Ok.ensures.1) ∙ climb _ (ascends_without u ps up), tt)))
+    record { few = omega arith; reserved = omega arith; rising = ap climbs (c.remove.ensures.items ∙ removed_without u ps c.in-Ok.place up c.in-Ok.ensures.1) ∙ climb _ (ascends_without u ps up) }
 
 pub returns-in-Ok : goal.returns-in-Ok
 returns-in-Ok g c =
@@ -23,8 +23,8 @@ returns-in-Ok g c =
       capacity = refl;
     }
 
-pub returns-in-default : goal.returns-in-default
-returns-in-default g c =
+pub returns-in_default : goal.returns-in_default
+returns-in_default g c =
     let ps = vec_items c.args.self.now.rows in
     let u = uid_octets c.args.uid.now in
-    record { pairs = sym (without_absent u ps (held_gap u ps c.in-default.field-0 c.in-default.ensures.1)); capacity = refl }
+    record { pairs = sym (without_absent u ps (held_gap u ps c.in_default.field-0 c.in_default.ensures.1)); capacity = refl }

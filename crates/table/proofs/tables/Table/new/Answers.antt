@@ -3,7 +3,7 @@ use Rattle.table.specs.Rows.{climbs}
 use Rattle.table.specs.Climbing.{climb}
 use Rattle.table.proofs.tables.Table.new.Goals as goal
 
-pub invariant-of-result : goal.invariant-of-result
-invariant-of-result g c =
-    let made = c.in-ok-room.ensures.made in
-    (omega (arith, made), (omega (arith, made), (ap climbs made.0 ∙ climb _ tt, tt)))
+pub invariant_of-result : goal.invariant_of-result
+invariant_of-result g c =
+    let made = c.in_ok-room.ensures in
+    record { few = omega (arith, made.len); reserved = omega (arith, made.capacity); rising = ap climbs made.items ∙ climb _ tt }
