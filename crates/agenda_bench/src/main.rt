@@ -16,6 +16,7 @@ use series::changes::{Alteration, Change, Override};
 use series::overrides::Overrides;
 use series::texts::Text;
 use source::sources::Source;
+use std::env::Env;
 use table::tables::Table;
 use undo::logs::UndoLog;
 

@@ -1,12 +1,12 @@
-// StoredSeries, pairs and entries that the tests share.
+// Series, pairs and entries that the tests share.
 use diary::entries::Entry;
 use refusal::Refusal;
 use series::changes::{Alteration, Change, Override};
 use series::clocks::Clock;
 use series::durations::Duration;
 use series::overrides::Overrides;
-use series::stored::StoredSeries;
 use series::stamps::Stamp;
+use series::stored::StoredSeries;
 use series::texts::Text;
 use series::uids::Uid;
 use source::intervals::Interval;

@@ -1,7 +1,5 @@
-// A full table and a full log, with removals and superseded cells.
+// A full table, with removals.
 use crate::samples::pair;
-use log::cell_store::LogStore;
-use log::logs::Log;
 use refusal::Refusal;
 use series::uids::Uid;
 use source::intervals::Interval;
@@ -57,42 +55,5 @@ fn a_table_of_no_rows(rt: HostRuntime) -> Result<(), Fail> {
     let mut table: Table<Interval> = Table::new(rt.alloc(), 0)?;
     assert_eq!(rt; table.put(pair(b"m")?), Err(Refusal::StoreFull));
     assert_eq!(rt; table.count(), 0);
-    Ok(())
-}
-
-// A log of three cells has two places: every change past the third drops superseded cells and removals first.
-#[test]
-fn a_log_of_three_cells(rt: HostRuntime) -> Result<(), Fail> {
-    let mut cells: Log<Interval> = Log::new(rt.alloc(), 3)?;
-    assert_eq!(rt; cells.capacity(), 2);
-    assert_eq!(rt; cells.put(pair(b"m")?), Ok(()));
-    assert_eq!(rt; cells.put(pair(b"c")?), Ok(()));
-    assert_eq!(rt; cells.put(pair(b"m")?), Ok(()));
-    assert_eq!(rt; cells.put(pair(b"x")?), Err(Refusal::StoreFull));
-    assert!(rt; has_uids(&cells, b"cm"));
-    assert_eq!(rt; cells.put(pair(b"c")?), Ok(()));
-    assert_eq!(rt; cells.put(pair(b"m")?), Ok(()));
-    assert!(rt; has_uids(&cells, b"cm"));
-    cells.remove(&Uid::new(b"c")?);
-    cells.remove(&Uid::new(b"c")?);
-    assert!(rt; has_uids(&cells, b"m"));
-    assert_eq!(rt; cells.put(pair(b"x")?), Ok(()));
-    assert!(rt; has_uids(&cells, b"mx"));
-    cells.remove(&Uid::new(b"m")?);
-    cells.remove(&Uid::new(b"x")?);
-    assert!(rt; has_uids(&cells, b""));
-    assert_eq!(rt; cells.put(pair(b"a")?), Ok(()));
-    assert!(rt; has_uids(&cells, b"a"));
-    Ok(())
-}
-
-#[test]
-fn logs_of_few_cells(rt: HostRuntime) -> Result<(), Fail> {
-    let mut none: Log<Interval> = Log::new(rt.alloc(), 0)?;
-    assert_eq!(rt; none.capacity(), 0);
-    assert_eq!(rt; none.put(pair(b"m")?), Err(Refusal::StoreFull));
-    let mut one: Log<Interval> = Log::new(rt.alloc(), 1)?;
-    assert_eq!(rt; one.capacity(), 0);
-    assert_eq!(rt; one.put(pair(b"m")?), Err(Refusal::StoreFull));
     Ok(())
 }
