@@ -9,14 +9,14 @@ use calendar::weekdays::Weekday;
 use recurrence::parts::{DayEntry, Few, MonthDay, Ordinal};
 
 pub(crate) trait Entry {
-    ghost admits: { Facts → Self → Bool };
+    ghost test: { Facts → Self → Bool };
 
     fn passes(&self, facts: &Facts) -> bool
-        ensures { result ≡ admits facts.now self.now };
+        ensures { result ≡ test facts.now self.now };
 }
 
 impl Entry for u8 {
-    ghost admits = { λ f m. at_month f m };
+    ghost test = { λ f m. at_month f m };
 
     fn passes(&self, facts: &Facts) -> bool {
         facts.month == *self
@@ -24,7 +24,7 @@ impl Entry for u8 {
 }
 
 impl Entry for MonthDay {
-    ghost admits = { λ f e. at_month_day f e };
+    ghost test = { λ f e. at_month_day f e };
 
     fn passes(&self, facts: &Facts) -> bool {
         match *self {
@@ -61,7 +61,7 @@ fn is_ordinal(facts: &Facts, ordinal: Ordinal) -> bool
 }
 
 impl Entry for DayEntry {
-    ghost admits = { λ f e. at_weekday f e };
+    ghost test = { λ f e. at_weekday f e };
 
     fn passes(&self, facts: &Facts) -> bool {
         if facts.weekday != number_of(self.weekday) {
@@ -73,7 +73,7 @@ impl Entry for DayEntry {
 
 // Some entry passes.
 pub(crate) fn any_passes<T: Entry>(list: &[T], facts: &Facts) -> bool
-    ensures { result ≡ any (T.Entry.admits facts.now) list.now }
+    ensures { result ≡ any (T.Entry.test facts.now) list.now }
 {
     for e in list {
         if e.passes(facts) {
@@ -86,7 +86,7 @@ pub(crate) fn any_passes<T: Entry>(list: &[T], facts: &Facts) -> bool
 // The part is absent, or some entry passes.
 pub(crate) fn allowed<T: Entry>(few: &Few<T>, facts: &Facts) -> bool
     requires { few.now.len ≤ 12 }
-    ensures { result ≡ allows (T.Entry.admits facts.now) few.now }
+    ensures { result ≡ allows (T.Entry.test facts.now) few.now }
 {
     if few.len == 0 {
         return true;

@@ -1,10 +1,9 @@
 -- The parts of a rule, each read from its value and given once.
-use Rattle.std.specs.Prelude.{ℕ, cond, List, [], ◌∷◌, Some, None, Ok, Err, Option, Result, ◌==◌}
+use Rattle.std.specs.Prelude.{ℕ, List, [], ◌∷◌, Some, None, Ok, Err, Option, Result}
 use Rattle.calendar.specs.declared.starts.Moment.{Moment}
 use Rattle.calendar.specs.declared.weekdays.Weekday.TheVariants.{Monday}
 use Rattle.refusal.specs.declared.Refusal.{Refusal}
-use Rattle.refusal.specs.declared.Refusal.TheVariants.{BadPart}
-use Rattle.refusal.specs.Numbers.{number}
+use Rattle.refusal.specs.declared.Refusal.TheVariants.{Malformed, OutOfBounds, BadPart, RuleConflict, StartNotPicked, UidPresent, UidHeld, StoreFull, OffSource, PageFull, BadWindow, EmptySource, ShortUndoLog}
 use Rattle.notation.specs.Dates.{moment_named}
 use Rattle.notation.specs.Digits.{capped}
 use Rattle.notation.specs.Fields.{cut_at}
@@ -23,7 +22,19 @@ use Rattle.rule_text.specs.Words.{frequency_named, weekday_named, part_named}
 -- a moment by its form; digits that name none are refused later
 abbrev pub limited : Result Moment Refusal → Option Limit
 limited (Ok m) = Some (At m)
-limited (Err e) = cond (number e == 7) None (Some Nowhere)
+limited (Err Malformed) = None
+limited (Err OutOfBounds) = Some Nowhere
+limited (Err BadPart) = Some Nowhere
+limited (Err RuleConflict) = Some Nowhere
+limited (Err StartNotPicked) = Some Nowhere
+limited (Err UidPresent) = Some Nowhere
+limited (Err UidHeld) = Some Nowhere
+limited (Err StoreFull) = Some Nowhere
+limited (Err OffSource) = Some Nowhere
+limited (Err PageFull) = Some Nowhere
+limited (Err BadWindow) = Some Nowhere
+limited (Err EmptySource) = Some Nowhere
+limited (Err ShortUndoLog) = Some Nowhere
 
 abbrev pub until_named : List ℕ → Option Limit
 until_named xs = limited (moment_named xs)
