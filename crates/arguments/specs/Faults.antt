@@ -1,5 +1,5 @@
 -- What is wrong with the arguments: each fault by its argument and its number.
-use Rattle.std.specs.Prelude.{◌≡◌, ℕ, Bool, true, cond, leb, List, [], length, Some, None, Ok, Err, Option, Result, nat_le, slice_index_or}
+use Rattle.std.specs.Prelude.{ℕ, Bool, true, cond, leb, List, [], length, Some, None, Ok, Err, Option, Result, nat_le, slice_index_or}
 use Rattle.std.specs.Borrow.{Bor}
 use Rattle.refusal.specs.declared.Refusal.{Refusal}
 use Rattle.refusal.specs.Numbers.{number as number_of}
@@ -7,7 +7,6 @@ use Rattle.calendar.specs.declared.starts.Moment.{Moment}
 use Rattle.notation.specs.Dates.{day_named, moment_named}
 use Rattle.notation.specs.Digits.{number}
 use Rattle.notation.specs.Intervals.{interval_named}
-use Rattle.notation.specs.declared.intervals.Spelled.{Spelled}
 use Rattle.rule_text.specs.Reading.{recurrence_named, rule_refused}
 use Rattle.series.specs.Octets.{is_text, is_uid}
 use Rattle.source.specs.Intervals.{in_bounds}

@@ -1,5 +1,5 @@
 -- What a job has from its words, and what is printed of it.
-use Rattle.std.specs.Prelude.{◌≡◌, ℕ, ◌+◌, ◌*◌, List, ◌++◌, length, Ok, Result}
+use Rattle.std.specs.Prelude.{◌≡◌, ℕ, ◌+◌, ◌*◌, List, ◌++◌, length, Ok}
 use Rattle.std.specs.Borrow.{Bor}
 use Rattle.calendar.specs.Dates.{date_of}
 use Rattle.event.specs.Agenda.{agenda_text, shown_days}

@@ -4,7 +4,7 @@ use Rattle.std.proofs.Common.{sym, ap, subst, ◌∙◌, ⊎_elim, arith}
 use Rattle.std.specs.List.{AllByRecursion as All}
 use Rattle.std.proofs.ByRecursion.{All-weaker, all_kept_by}
 use Rattle.std.proofs.lemmas.Bool.{cases_Bool, cases_order, lt-ltb, le-ltb, eq-eqb, ne_eqb}
-use Rattle.source.specs.Days.{Ascending, before, since, head_of}
+use Rattle.source.specs.Days.{Ascending, since, head_of}
 use Rattle.dates.specs.Unions.{slot, merged, sooner, BothSides}
 use Rattle.source.specs.Ascents.{kept_ascends}
 

@@ -1,5 +1,5 @@
 -- What it means that nothing is refused of an entry.
-use Rattle.std.proofs.Common.{◌≡◌, ℕ, ◌+◌, ◌<◌, ◌≤◌, Bool, true, false, cond, not, ltb, leb, List, length, is_some, Some, None, Option, sym, refl, ap, ◌∙◌, arith}
+use Rattle.std.proofs.Common.{◌≡◌, ℕ, true, false, cond, ltb, List, is_some, Some, None, Option, sym, refl, ap, ◌∙◌, arith}
 use Rattle.series.specs.declared.overrides.Overrides.{Overrides}
 use Rattle.series.specs.declared.stored.StoredSeries.{StoredSeries}
 use Rattle.store.specs.declared.pairs.Pair.{Pair}

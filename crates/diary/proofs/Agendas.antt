@@ -1,5 +1,5 @@
 -- What is printed of a diary is printed of the history that explains it.
-use Rattle.std.proofs.Common.{◌≡◌, ℕ, List, Ok, Err, Result, MatchResult}
+use Rattle.std.proofs.Common.{ℕ, List, Ok, Err, Result, MatchResult}
 use Rattle.refusal.specs.declared.Refusal.{Refusal}
 use Rattle.history.specs.Explains.{Explains}
 use Rattle.history.specs.Histories.{History, agenda, fed}

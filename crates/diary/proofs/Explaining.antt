@@ -1,9 +1,8 @@
 -- An accepted entry is explained by the history fed with it.
-use Rattle.std.proofs.Common.{◌≡◌, ℕ, List, [], ◌∷◌, map, take, Some, None, Option, sym, refl, ap, ◌∙◌}
+use Rattle.std.proofs.Common.{◌≡◌, ℕ, List, [], ◌∷◌, map, take, Some, None, sym, refl, ap, ◌∙◌}
 use Rattle.std.specs.Option.{option_map}
 use Rattle.std.proofs.lemmas.List.{take-map}
-use Rattle.series.specs.Plans.{Plan, plan_from, plan_of}
-use Rattle.series.specs.Values.{uid_octets}
+use Rattle.series.specs.Plans.{plan_from, plan_of}
 use Rattle.history.specs.Explains.{Explains}
 use Rattle.history.specs.Histories.{History, enter, done, fed}
 use Rattle.history.specs.States.{at, put, Record}

@@ -1,5 +1,5 @@
 -- A UID has a place just where it has a series.
-use Rattle.std.proofs.Common.{◌≡◌, ℕ, suc, Bool, true, false, cond, List, [], ◌∷◌, is_some, Some, None, Option, refl}
+use Rattle.std.proofs.Common.{◌≡◌, ℕ, suc, Bool, true, false, cond, List, [], ◌∷◌, is_some, Some, refl}
 use Rattle.std.specs.Str.{bytes_eq}
 use Rattle.store.specs.declared.pairs.Pair.{Pair}
 use Rattle.store.specs.Pairs.{key, place_from, held}

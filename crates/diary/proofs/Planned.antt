@@ -1,11 +1,11 @@
 -- The plans of a store's pairs, as a list and as a map.
-use Rattle.std.proofs.Common.{◌≡◌, ℕ, Bool, true, false, cond, List, [], ◌∷◌, map, Some, None, Option, sym, refl, ap, ◌∙◌}
+use Rattle.std.proofs.Common.{◌≡◌, ℕ, Bool, true, false, cond, List, [], ◌∷◌, Some, refl, ap}
 use Rattle.std.specs.Option.{option_map}
 use Rattle.std.specs.List.{AllByRecursion as All}
 use Rattle.std.specs.Str.{bytes_eq}
 use Rattle.series.specs.Order.{Ahead, precedes}
 use Rattle.series.specs.Plans.{Plan, plan_of}
-use Rattle.history.specs.States.{Plans, at, placing, Ascends as AscendPlans}
+use Rattle.history.specs.States.{at, placing, Ascends as AscendPlans}
 use Rattle.store.specs.declared.pairs.Pair.{Pair}
 use Rattle.store.specs.Pairs.{key, Ascends, held, placed}
 use Rattle.merge.specs.Printed.{plans_of}

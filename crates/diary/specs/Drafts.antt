@@ -1,18 +1,13 @@
 -- What drafts hold and reserve.
-use Rattle.std.specs.Prelude.{ℕ, suc, ◌+◌, Bool, false, ◌||◌, List, [], ◌∷◌, ◌++◌, length, Some, None, Option}
+use Rattle.std.specs.Prelude.{ℕ, suc, ◌+◌, Bool, false, ◌||◌, List, [], ◌∷◌, length, Some, None, Option}
 use Rattle.std.specs.Str.{bytes_eq}
 use Rattle.series.specs.Values.{uid_octets, text_octets}
-use Rattle.history.specs.Cancels.{Cancel}
-use Rattle.history.specs.Alters.{Alter}
-use Rattle.history.specs.Wholes.{Whole}
-use Rattle.history.specs.Splits.{Split}
 use Rattle.history.specs.Items as items
 use Rattle.history.specs.States as states
 use Rattle.diary.specs.declared.drafts.Edit.{Edit}
 use Rattle.diary.specs.declared.drafts.Edit.TheVariants as kinds
 use Rattle.diary.specs.declared.drafts.Slot.{Slot}
 use Rattle.diary.specs.declared.drafts.Slot.TheVariants.{Free, Open, Checked}
-use Rattle.diary.specs.declared.drafts.Drafts.{Drafts}
 
 -- the UID that a checked edit is to bring in
 abbrev pub brings_in : Edit → List (List ℕ)

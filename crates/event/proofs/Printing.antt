@@ -1,5 +1,5 @@
 -- The agenda while its lines are added, day by day.
-use Rattle.std.proofs.Common.{◌≡◌, ℕ, ◌+◌, ◌*◌, ◌<◌, ◌≤◌, Bool, true, false, cond, ◌&&◌, ltb, leb, List, [], ◌∷◌, ◌++◌, length, Some, None, filter, Option, sym, refl, ap, ◌∙◌, subst, ⊎_elim, arith}
+use Rattle.std.proofs.Common.{◌≡◌, ℕ, ◌+◌, ◌<◌, ◌≤◌, true, false, ltb, leb, List, [], ◌∷◌, ◌++◌, length, Some, None, filter, Option, sym, refl, ap, ◌∙◌, subst, ⊎_elim, arith}
 use Rattle.std.specs.List.{flat_map, AllByRecursion as All}
 use Rattle.std.proofs.ByRecursion.{All-weaker, All-from_get_or}
 use Rattle.std.proofs.lemmas.List.{append-nil, append_assoc, length-append}
@@ -9,7 +9,7 @@ use Rattle.calendar.specs.Starts.{start_of}
 use Rattle.page.specs.Pages.{Added, Full, Kept}
 use Rattle.page.proofs.Writing.{added_none, added_more, kept_more}
 use Rattle.refusal.specs.declared.Refusal.{Refusal}
-use Rattle.source.specs.Days.{Ascending, since, head_of, first_from}
+use Rattle.source.specs.Days.{Ascending, since, first_from}
 use Rattle.source.specs.Kept.{kept_none, kept_within}
 use Rattle.source.specs.Ascents.{since_first, first_is_from, first_has, since_none, since_later}
 use Rattle.event.specs.Agenda.{in_window, early}

@@ -1,12 +1,12 @@
 -- One step of the merge.
-use Rattle.std.proofs.Common.{◌≡◌, ℕ, zero, suc, ◌+◌, ◌*◌, ◌/◌, ◌<◌, ◌≤◌, ◌≢◌, ◌⊎◌, ◌↔◌, List, [], ◌∷◌, ◌++◌, length, set, sym, refl, ap, ◌∙◌, subst, inl, inr, ⊎_elim, arith}
+use Rattle.std.proofs.Common.{◌≡◌, ℕ, ◌+◌, ◌*◌, ◌<◌, ◌≤◌, List, [], ◌∷◌, ◌++◌, length, set, sym, ◌∙◌, subst, inl, inr, ⊎_elim, arith}
 use Rattle.std.proofs.lemmas.List.{get_or-set_same, get_or-set_other}
 use Rattle.std.proofs.lemmas.Bool.{cases_eq, cases_lt}
 use Rattle.series.specs.Members.{Mem, Ordered}
 use Rattle.upcoming.specs.Least.{rank}
 use Rattle.history.proofs.Members.{mem_append_left, mem_append_right}
 use Rattle.tournament.specs.declared.nodes.Node.{Node}
-use Rattle.tournament.specs.Ranks.{node, Won, Played, Seated, rank as seed}
+use Rattle.tournament.specs.Ranks.{node, Played, Seated, rank as seed}
 use Rattle.tournament.proofs.Games.{root_best, root_leaf}
 use Rattle.merge.specs.Cursors.{Cursor, Stand}
 use Rattle.merge.proofs.OrderedLists.{mem_push, ordered_push}

@@ -1,5 +1,5 @@
 -- From places to UIDs: the nodes that the merge gives are the agenda.
-use Rattle.std.proofs.Common.{◌≡◌, ℕ, zero, suc, ◌+◌, ◌*◌, ◌<◌, ◌≤◌, true, ◌&&◌, ltb, leb, List, [], ◌∷◌, ◌++◌, map, length, Some, None, Option, sym, refl, ap, ◌∙◌, subst, inl, inr, ⊎_elim, arith}
+use Rattle.std.proofs.Common.{◌≡◌, ℕ, zero, suc, ◌<◌, ◌≤◌, true, ◌&&◌, ltb, leb, List, [], ◌∷◌, map, length, Some, None, Option, sym, refl, ap, ◌∙◌, subst, inl, inr, ⊎_elim, arith}
 use Rattle.std.specs.List.{flat_map, AllByRecursion as All}
 use Rattle.std.proofs.lemmas.Bool.{cases_lt, and_from, and_parts, le-leb, lt-ltb, leb-true, ltb-true}
 use Rattle.history.specs.Agendas.{Before, in_window, IsAgenda}
@@ -15,7 +15,7 @@ use Rattle.tournament.specs.declared.nodes.Node.{Node}
 use Rattle.merge.specs.Places.{ShowsBy, ShowsAt, occurrence_by, named}
 use Rattle.merge.specs.Printed.{plans_of}
 use Rattle.merge.proofs.OrderedLists.{ordered_map, heavier}
-use Rattle.merge.proofs.Merging.{full, Sooner, Line}
+use Rattle.merge.proofs.Merging.{Sooner, Line}
 
 module _ {S : Type 0} (days : S → List ℕ) where
   -- what a shown occurrence is by its pair

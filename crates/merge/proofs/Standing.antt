@@ -1,10 +1,10 @@
 -- A cursor from what a series answers.
-use Rattle.std.proofs.Common.{◌≡◌, ℕ, zero, suc, ◌<◌, ◌≤◌, List, [], ◌∷◌, length, Some, None, Option, sym, refl, subst, arith}
+use Rattle.std.proofs.Common.{ℕ, ◌<◌, ◌≤◌, List, Some, None, Option, refl, arith}
 use Rattle.std.specs.List.{AllByRecursion as All}
 use Rattle.history.proofs.Members.{all_mem}
 use Rattle.store.specs.declared.pairs.Pair.{Pair}
 use Rattle.store.specs.Pairs.{pair_at}
-use Rattle.upcoming.specs.Least.{rank, Least, NoneIn}
+use Rattle.upcoming.specs.Least.{Least, NoneIn}
 use Rattle.merge.specs.Cursors.{Cursor}
 use Rattle.merge.specs.Places.{ShowsBy, ShowsAt}
 

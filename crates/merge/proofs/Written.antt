@@ -4,7 +4,6 @@ use Rattle.std.specs.List.{flat_map, AllByRecursion as All}
 use Rattle.std.proofs.lemmas.List.{append-nil, length-append, length-map, length_push, length-set, map_push}
 use Rattle.calendar.specs.Dates.{date_of}
 use Rattle.calendar.specs.Starts.{is_window}
-use Rattle.history.specs.Agendas.{IsAgenda}
 use Rattle.history.specs.States.{occurrences}
 use Rattle.page.specs.Lines.{date_text, clock_text, fields_text}
 use Rattle.page.specs.Pages.{Added, Full, Kept}

@@ -1,14 +1,14 @@
 -- Moments by their spelling.
-use Rattle.std.proofs.Common.{◌≡◌, ℕ, ◌+◌, ◌*◌, ◌/◌, ◌%◌, ◌<◌, ◌≤◌, Bool, true, false, cond, ◌&&◌, eqb, leb, List, [], ◌∷◌, ◌++◌, Some, None, Ok, Err, Option, Result, sym, refl, ap, ◌∙◌, subst, ⊎_elim, arith}
+use Rattle.std.proofs.Common.{◌≡◌, ℕ, ◌+◌, ◌*◌, ◌/◌, ◌%◌, ◌≤◌, true, false, ◌&&◌, eqb, leb, List, ◌∷◌, Some, Ok, Result, sym, refl, ap, ◌∙◌, subst, ⊎_elim, arith}
 use Rattle.std.specs.List.{AllByRecursion as All}
 use Rattle.std.proofs.ByRecursion.{All-append}
-use Rattle.std.proofs.lemmas.Bool.{and_parts, and_from, cases_Bool, leb-true, le-leb, eqb-true, eq-eqb}
+use Rattle.std.proofs.lemmas.Bool.{and_parts, cases_Bool, leb-true, le-leb, eqb-true}
 use Rattle.calendar.specs.declared.starts.Moment.{Moment}
 use Rattle.calendar.specs.Dates.{day_at}
 use Rattle.refusal.specs.declared.Refusal.{Refusal}
 use Rattle.notation.specs.Dates.{date_named, clock_named, moment_named}
 use Rattle.notation.specs.Digits.{numeral}
-use Rattle.notation.specs.Fields.{cut_at, formed, in_range, and_then}
+use Rattle.notation.specs.Fields.{cut_at, formed, in_range}
 use Rattle.notation.specs.Spelling.{Writes, SpellsMoment}
 use Rattle.notation.proofs.Answering.{err_ok, both, was_formed, was_there}
 use Rattle.notation.proofs.Cuts.{cut_joins, cut_finds}

@@ -1,5 +1,5 @@
 -- COUNT after a cut: no more than before, and never beside a last day but where no day is left.
-use Rattle.std.proofs.Common.{◌≡◌, ℕ, zero, suc, ◌<◌, ◌≤◌, Bool, true, false, List, [], ◌∷◌, length, take, is_some, Some, None, Option, sym, refl, ap, ⊎_elim, arith, length-append}
+use Rattle.std.proofs.Common.{◌≡◌, ℕ, zero, suc, ◌<◌, ◌≤◌, Bool, true, List, [], ◌∷◌, length, take, is_some, Some, None, Option, sym, refl, ap, ⊎_elim, arith, length-append}
 use Rattle.std.proofs.lemmas.Bool.{cases_lt, true≢false, leb-true, le-leb, eqb-true, eq-eqb}
 use Rattle.recurrence.specs.declared.parts.Pattern.{Pattern}
 use Rattle.rule.specs.Spans.{span, stop}

@@ -2,24 +2,20 @@
 use Rattle.std.proofs.Common.{◌≡◌, ℕ, zero, suc, ◌-◌, ◌<◌, ◌≤◌, Bool, true, false, not, ◌&&◌, ◌||◌, List, [], ◌∷◌, ◌++◌, is_some, Some, None, Ok, codes, Option, sym, refl, ap, ◌∙◌, ⊎_elim, arith}
 use Rattle.std.proofs.lemmas.Bool.{cases_lt}
 use Rattle.calendar.proofs.DateLaws.{no_date}
-use Rattle.refusal.specs.declared.Refusal.{Refusal}
-use Rattle.refusal.specs.declared.Refusal.TheVariants.{OutOfBounds, RuleConflict, StartNotPicked}
 use Rattle.recurrence.specs.declared.parts.Pattern.{Pattern}
 use Rattle.recurrence.specs.declared.parts.Recurrence.{Recurrence}
-use Rattle.rule.specs.declared.rules.Rule.{Rule}
-use Rattle.rule.specs.Cut.{days_in}
 use Rattle.rule.specs.Lists.{chooses, days_of}
 use Rattle.rule.specs.Refused.{list_of, refusal, first_refusal, in_bounds, conflict, among, pattern_of, pattern_suits}
-use Rattle.rule.specs.Remade.{recurrence_by, recurrence_in}
+use Rattle.rule.specs.Remade.{recurrence_by}
 use Rattle.rule.specs.Spans.{limited, span, stop}
 use Rattle.rule.specs.SpansLemmas.{void}
 use Rattle.rule.proofs.Remaking.{empty_not, alone, remakes}
 use Rattle.dates.specs.Unions.{merged}
 use Rattle.rule_text.specs.Lists.{if_some}
-use Rattle.rule_lines.specs.DayLines.{given, moment_days, unrefused, rule_days, start_days, lines_days, start_text, rule_lines, repeat_line, Twelve, LinesMean}
+use Rattle.rule_lines.specs.DayLines.{given, moment_days, unrefused, rule_days, start_days, lines_days, start_text, repeat_line, Twelve, LinesMean}
 use Rattle.rule_text.specs.Reading.{recurrence_named}
 use Rattle.rule_text.specs.Words.{same_text}
-use Rattle.rule_lines.specs.Writing.{recurrence_text, period_text, count_text, lists_text, last_text, last_known, Writable, SameParts}
+use Rattle.rule_lines.specs.Writing.{recurrence_text, period_text, count_text, lists_text, last_text, last_known, SameParts}
 use Rattle.rule_lines.proofs.ReadsBack.{reads_back}
 use Rattle.rule_lines.proofs.SameMeaning.{same_days, same_refusal}
 use Rattle.rule_lines.proofs.WrittenDays.{moment_read}

@@ -1,5 +1,5 @@
 -- The entries of the lists of a rule.
-use Rattle.std.specs.Prelude.{ℕ, ◌-◌, Bool, cond, List, [], ◌∷◌, length, take, drop, Some, None, Option, ◌==◌, nat_le}
+use Rattle.std.specs.Prelude.{ℕ, ◌-◌, cond, List, [], ◌∷◌, length, take, drop, Some, None, Option, ◌==◌, nat_le}
 use Rattle.std.specs.Option.{option_map}
 use Rattle.calendar.specs.declared.weekdays.Weekday.{Weekday}
 use Rattle.notation.specs.Digits.{numeral}

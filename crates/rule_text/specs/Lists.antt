@@ -1,6 +1,5 @@
 -- Lists of entries, parted by commas.
-use Rattle.std.specs.Prelude.{ℕ, ◌+◌, Bool, cond, List, [], ◌∷◌, ◌++◌, length, replicate, Some, None, Option, ◌==◌, nat_lt, slice_set}
-use Rattle.std.specs.Option.{option_map}
+use Rattle.std.specs.Prelude.{ℕ, ◌+◌, cond, List, [], ◌∷◌, replicate, Some, None, Option, ◌==◌, nat_lt, slice_set}
 use Rattle.recurrence.specs.declared.parts.Few.{Few}
 
 -- one octet more at the front of the first field

@@ -1,6 +1,6 @@
 -- A recurrence from the text of a rule.
 use Rattle.std.specs.Prelude.{◌≡◌, ℕ, ◌+◌, min, cond, List, [], ◌∷◌, replicate, Some, None, Ok, Err, Option, Result, nat_lt}
-use Rattle.std.specs.Option.{option_map, unwrap_or}
+use Rattle.std.specs.Option.{unwrap_or}
 use Rattle.calendar.specs.Years.{last_day}
 use Rattle.calendar.specs.declared.starts.Moment.{Moment}
 use Rattle.calendar.specs.declared.weekdays.Weekday.TheVariants.{Monday}

@@ -1,8 +1,8 @@
 -- Overrides that fit a map: they rise, and each is what the map says of its day.
-use Rattle.std.proofs.Common.{◌≡◌, ℕ, zero, suc, ◌+◌, ◌<◌, ◌≤◌, Bool, true, false, cond, ◌&&◌, eqb, leb, ◌⊎◌, List, [], ◌∷◌, length, get_or, sym, refl, ap, ◌∙◌, inl, inr, arith}
+use Rattle.std.proofs.Common.{◌≡◌, ℕ, zero, suc, ◌+◌, ◌<◌, ◌≤◌, true, false, ◌&&◌, leb, ◌⊎◌, List, [], ◌∷◌, length, get_or, refl, inl, inr, arith}
 use Rattle.std.proofs.lemmas.Bool.{and_parts, and_left, and_right, leb-true, le-leb, lt-leb, eq-eqb, ne_eqb}
 use Rattle.series.specs.declared.changes.Override.{Override}
-use Rattle.series.specs.Marks.{Mark, plain, mark_of, mark_on, change_fits, overrides_fit}
+use Rattle.series.specs.Marks.{plain, mark_of, mark_on, change_fits, overrides_fit}
 
 -- what it says of the first that it fits
 pub record Fits (n : ℕ) (o : Override) (os : List Override) : Type 0 where

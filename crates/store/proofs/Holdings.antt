@@ -1,16 +1,15 @@
 -- What is held after a put and after a removal, and that ascending pairs are known by what they hold.
-use Rattle.std.proofs.Common.{◌≡◌, ℕ, zero, suc, ◌+◌, ◌<◌, ◌≤◌, Bool, true, false, cond, ◌⊎◌, List, [], ◌∷◌, map, length, get_or, Some, None, Option, sym, refl, ap, ◌∙◌, subst, inl, inr, ⊎_elim, arith}
+use Rattle.std.proofs.Common.{◌≡◌, ℕ, suc, true, false, cond, ◌⊎◌, List, [], ◌∷◌, length, Some, None, sym, refl, ap, ◌∙◌, subst, ⊎_elim, arith}
 use Rattle.std.specs.List.{AllByRecursion as All}
 use Rattle.std.specs.Str.{bytes_eq}
 use Rattle.std.specs.Option.{option_map}
 use Rattle.std.proofs.ByRecursion.{All-weaker}
 use Rattle.series.specs.declared.stored.StoredSeries.{StoredSeries}
-use Rattle.series.specs.Members.{Ordered}
-use Rattle.series.specs.Order.{Ahead, precedes}
+use Rattle.series.specs.Order.{Ahead}
 use Rattle.series.proofs.Orders.{chain}
 use Rattle.store.specs.declared.pairs.Pair.{Pair}
 use Rattle.store.specs.Pairs.{key, Ascends, found, held, placed, without}
-use Rattle.store.specs.Keys.{Before, Same, After, ways, same_is, same_not, same_tells, ahead_apart, behind_apart}
+use Rattle.store.specs.Keys.{Before, Same, After, ways, same_is, same_not, same_tells, behind_apart}
 
 module _ {S : Type 0} where
   -- the series held is that of the pair found

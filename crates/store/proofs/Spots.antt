@@ -1,9 +1,9 @@
 -- Pairs by their places: what stands at one, and that writing at the place that a search gives is a put or a removal.
-use Rattle.std.proofs.Common.{◌≡◌, ℕ, zero, suc, ◌+◌, ◌<◌, ◌≤◌, Bool, true, false, cond, ◌⊎◌, List, [], ◌∷◌, ◌++◌, map, length, get_or, set, Some, None, Option, sym, refl, ap, ◌∙◌, subst, inl, inr, ⊎_elim, arith}
+use Rattle.std.proofs.Common.{◌≡◌, ℕ, zero, suc, ◌+◌, ◌<◌, ◌≤◌, false, List, [], ◌∷◌, map, length, get_or, set, Some, None, sym, refl, ap, ◌∙◌, subst, arith}
 use Rattle.std.specs.List.{insert, remove, AllByRecursion as All}
 use Rattle.std.specs.Str.{bytes_eq}
 use Rattle.std.specs.Option.{option_map}
-use Rattle.series.specs.Order.{Ahead, precedes}
+use Rattle.series.specs.Order.{Ahead}
 use Rattle.store.specs.declared.pairs.Pair.{Pair}
 use Rattle.store.specs.Pairs.{key, Ascends, pair_at, place_from, place_of, found, held, placed, without}
 use Rattle.store.specs.Seats.{Seat, Gap}

@@ -1,5 +1,5 @@
 -- Keys in order: what the tests say of them, and where one stands or would stand among them.
-use Rattle.std.specs.Prelude.{◌≡◌, ℕ, zero, suc, ◌<◌, ◌≤◌, Bool, true, false, ◌⊎◌, List, [], ◌∷◌, map, length, Ok, Err, Result, MatchResult, ◌≢◌, slice_index_or}
+use Rattle.std.specs.Prelude.{◌≡◌, ℕ, zero, suc, ◌<◌, ◌≤◌, true, false, ◌⊎◌, List, [], ◌∷◌, map, length, Ok, Err, Result, MatchResult, ◌≢◌, slice_index_or}
 use Rattle.std.proofs.Common.{sym, subst, ap, inl, inr, ⊎_elim, arith}
 use Rattle.std.specs.List.{AllByRecursion as All}
 use Rattle.std.specs.Str.{bytes_eq}

@@ -1,5 +1,5 @@
 -- Pairs of UID and series, and how they change.
-use Rattle.std.specs.Prelude.{◌≡◌, ℕ, zero, suc, ◌<◌, ◌≤◌, cond, List, [], ◌∷◌, length, Some, None, Option}
+use Rattle.std.specs.Prelude.{◌≡◌, ℕ, zero, suc, ◌≤◌, cond, List, [], ◌∷◌, length, Some, None, Option}
 use Rattle.std.specs.Str.{bytes_eq}
 use Rattle.series.specs.declared.stored.StoredSeries.{StoredSeries}
 use Rattle.series.specs.Members.{Ordered}

@@ -1,8 +1,8 @@
 -- The least of a set, where one more set is looked at.
-use Rattle.std.proofs.Common.{◌≡◌, ℕ, ◌+◌, ◌*◌, ◌<◌, ◌≤◌, true, false, ltb, ◌⊎◌, Some, None, Option, inl, inr, arith}
+use Rattle.std.proofs.Common.{◌≡◌, ℕ, ◌<◌, ◌≤◌, true, false, ◌⊎◌, Some, None, Option, inl, inr, arith}
 use Rattle.std.proofs.lemmas.Bool.Decides.{nat_tests}
 use Rattle.upcoming.specs.declared.keys.Key.{Key}
-use Rattle.upcoming.specs.Least.{rank, Least, Next}
+use Rattle.upcoming.specs.Least.{rank, Next}
 use Rattle.upcoming.specs.Kinds.{beats}
 
 module _ (s d end : ℕ) where

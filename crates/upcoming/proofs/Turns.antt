@@ -1,10 +1,10 @@
 -- What the best so far is once one more override has been looked at.
-use Rattle.std.proofs.Common.{◌≡◌, ℕ, ◌≤◌, ◌⊎◌, List, [], ◌∷◌, ◌++◌, Some, None, Option, sym, ap, ◌∙◌, subst, inl, inr, arith}
+use Rattle.std.proofs.Common.{ℕ, ◌⊎◌, List, [], ◌∷◌, ◌++◌, Some, None, Option, subst, inl, inr, arith}
 use Rattle.series.specs.declared.changes.Override.{Override}
 use Rattle.series.specs.Members.{Mem}
 use Rattle.upcoming.specs.declared.keys.Key.{Key}
-use Rattle.upcoming.specs.Kinds.{MovesTo, Moves, Moved, Better, BetterOf}
-use Rattle.upcoming.specs.Least.{rank, Next}
+use Rattle.upcoming.specs.Kinds.{MovesTo, Moved, Better, BetterOf}
+use Rattle.upcoming.specs.Least.{Next}
 use Rattle.upcoming.proofs.Joins.{alike, stays, takes}
 use Rattle.upcoming.proofs.Moving.{one_place, moves_more, moves_less}
 

@@ -1,5 +1,5 @@
 -- The least of a set of starts and days, from a key on and before an end.
-use Rattle.std.specs.Prelude.{◌≡◌, ℕ, ◌+◌, ◌*◌, ◌<◌, ◌≤◌, Some, None, Option}
+use Rattle.std.specs.Prelude.{ℕ, ◌+◌, ◌*◌, ◌<◌, ◌≤◌, Some, None, Option}
 use Rattle.upcoming.specs.declared.keys.Key.{Key}
 
 -- (start, day) in dictionary order, as one number: a day is below 2 ^ 32

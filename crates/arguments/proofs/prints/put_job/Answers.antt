@@ -1,4 +1,4 @@
-use Rattle.std.proofs.Common.{◌≡◌, ℕ, ◌+◌, ◌*◌, ◌≤◌, true, leb, List, length, Some, Option, subst, arith}
+use Rattle.std.proofs.Common.{◌≡◌, ℕ, ◌≤◌, true, leb, List, Some, Option, subst, arith}
 use Rattle.std.proofs.lemmas.List.{length-append}
 use Rattle.std.proofs.lemmas.Result.{err_from_is_err_and}
 use Rattle.std.proofs.lemmas.Bool.{and_from, le-leb}
@@ -6,7 +6,7 @@ use Rattle.calendar.specs.declared.date.Date.{Date}
 use Rattle.calendar.specs.Dates.{date_of}
 use Rattle.calendar.specs.Starts.{is_window}
 use Rattle.event.specs.Agenda.{agenda_text}
-use Rattle.page.specs.Pages.{Added, Full, Kept, Short}
+use Rattle.page.specs.Pages.{Added, Full}
 use Rattle.page.specs.Summaries.{summary_text}
 use Rattle.page.proofs.Writing.{added_more, kept_more, short_more}
 use Rattle.arguments.specs.declared.job.Job.{Job}

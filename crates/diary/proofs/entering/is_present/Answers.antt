@@ -1,4 +1,4 @@
-use Rattle.std.proofs.Common.{◌≡◌, is_some, sym, ap, ◌∙◌}
+use Rattle.std.proofs.Common.{is_some, sym, ap, ◌∙◌}
 use Rattle.series.specs.Values.{uid_octets}
 use Rattle.diary.proofs.Places.{place_held}
 use Rattle.diary.proofs.entering.is_present.Goals as goal

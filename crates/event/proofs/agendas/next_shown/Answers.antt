@@ -1,4 +1,4 @@
-use Rattle.std.proofs.Common.{ℕ, ◌≤◌, sym, arith}
+use Rattle.std.proofs.Common.{◌≤◌, sym, arith}
 use Rattle.source.specs.Ascents.{first_has}
 use Rattle.event.proofs.agendas.next_shown.Goals as goal
 

@@ -1,4 +1,4 @@
-use Rattle.std.proofs.Common.{◌≡◌, ℕ, ◌<◌, ◌≤◌, length, filter, arith}
+use Rattle.std.proofs.Common.{◌≡◌, length, filter, arith}
 use Rattle.std.proofs.lemmas.Result.{err_from_is_err_and}
 use Rattle.event.specs.Agenda.{day_line, in_window}
 use Rattle.page.specs.Pages.{Added}

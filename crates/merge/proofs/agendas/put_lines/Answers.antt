@@ -1,11 +1,11 @@
-use Rattle.std.proofs.Common.{◌≡◌, ℕ, ◌+◌, ◌*◌, ◌<◌, ◌≤◌, true, leb, length, set, refl, arith}
+use Rattle.std.proofs.Common.{◌+◌, ◌<◌, ◌≤◌, leb, refl, arith}
 use Rattle.std.proofs.lemmas.List.{length-set}
 use Rattle.std.proofs.lemmas.Result.{err_from_is_err_and}
 use Rattle.std.proofs.lemmas.Bool.{and_parts, leb-true}
 use Rattle.tournament.specs.Ranks.{node}
 use Rattle.tournament.proofs.Games.{changed}
 use Rattle.merge.specs.Places.{named}
-use Rattle.merge.proofs.Written.{Writing, written, line_long, writes_none, prints_none, root, shown, day_near, prints, none_fits, writes_more}
+use Rattle.merge.proofs.Written.{written, line_long, writes_none, prints_none, root, shown, day_near, prints, none_fits, writes_more}
 use Rattle.page.proofs.Writing.{kept_more}
 use Rattle.merge.proofs.agendas.put_lines.Goals as goal
 

@@ -1,4 +1,4 @@
-use Rattle.std.proofs.Common.{◌≡◌, ℕ, ◌<◌, ◌≤◌, Some, None, Option, subst, arith}
+use Rattle.std.proofs.Common.{◌≤◌, Option, subst, arith}
 use Rattle.history.proofs.Members.{all_mem}
 use Rattle.series.specs.Plans.{plan_of}
 use Rattle.store.specs.declared.pairs.Pair.{Pair}

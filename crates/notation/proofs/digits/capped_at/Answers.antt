@@ -1,8 +1,8 @@
-use Rattle.std.proofs.Common.{◌≡◌, ℕ, ◌+◌, ◌-◌, ◌*◌, ◌<◌, ◌≤◌, min, Bool, true, false, cond, ◌&&◌, eqb, length, get_or, drop, Some, sym, refl, ap, ◌∙◌, arith}
+use Rattle.std.proofs.Common.{◌≡◌, ◌+◌, ◌-◌, ◌*◌, min, true, false, ◌&&◌, length, get_or, drop, Some, sym, ap, ◌∙◌, arith}
 use Rattle.std.proofs.lemmas.List.{at_drop_all}
 use Rattle.std.proofs.lemmas.Bool.{and_right, eqb-false, le-leb}
 use Rattle.notation.specs.Digits.{is_digit, all_digits, value_from}
-use Rattle.notation.proofs.Values.{digit_range, digits_step, value_step, value_capped, above}
+use Rattle.notation.proofs.Values.{digits_step, value_step, value_capped, above}
 use Rattle.notation.proofs.digits.capped_at.Goals as goal
 
 pub returns-then-not-is_digit : goal.returns-then-not-is_digit

@@ -1,6 +1,6 @@
-use Rattle.std.proofs.Common.{◌≡◌, ℕ, ◌+◌, ◌-◌, ◌*◌, ◌^◌, ◌<◌, ◌≤◌, Bool, true, false, cond, ◌&&◌, length, get_or, drop, Some, sym, refl, ap, ◌∙◌, arith}
+use Rattle.std.proofs.Common.{◌≡◌, ℕ, ◌+◌, ◌-◌, ◌*◌, ◌^◌, ◌<◌, ◌≤◌, true, false, ◌&&◌, length, get_or, drop, Some, sym, ap, ◌∙◌, arith}
 use Rattle.std.proofs.lemmas.List.{at_drop_all}
-use Rattle.std.proofs.lemmas.Bool.{and_right, and_parts, leb-true, le-leb}
+use Rattle.std.proofs.lemmas.Bool.{and_right, le-leb}
 use Rattle.notation.specs.Digits.{is_digit, all_digits, value_from}
 use Rattle.notation.proofs.Values.{ten_more, ten_within, digit_range, digits_step, value_step}
 use Rattle.notation.proofs.digits.numeral_within.Goals as goal

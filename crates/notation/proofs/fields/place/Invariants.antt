@@ -1,4 +1,4 @@
-use Rattle.std.proofs.Common.{◌≡◌, ◌++◌, take, drop}
+use Rattle.std.proofs.Common.{◌≡◌, take, drop}
 use Rattle.std.specs.Option.{option_map}
 use Rattle.notation.specs.Fields.{cut_at}
 use Rattle.notation.proofs.Cuts.{behind}

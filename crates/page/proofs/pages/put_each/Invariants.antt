@@ -1,4 +1,4 @@
-use Rattle.std.proofs.Common.{◌≡◌, take}
+use Rattle.std.proofs.Common.{take}
 use Rattle.std.specs.List.{flat_map}
 use Rattle.page.specs.Pages.{Added, Kept}
 use Rattle.page.proofs.pages.put_each.Given as goal

@@ -1,4 +1,4 @@
-use Rattle.std.proofs.Common.{◌-◌, ◌%◌, ap, mod-lt, arith}
+use Rattle.std.proofs.Common.{◌%◌, ap, mod-lt, arith}
 use Rattle.calendar.specs.Weekdays.{weekday_number}
 use Rattle.pattern.proofs.Periods.{floor, ceiling}
 use Rattle.pattern.proofs.Ahead.{jump, most_least}

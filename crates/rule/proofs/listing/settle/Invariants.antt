@@ -1,4 +1,4 @@
-use Rattle.std.proofs.Common.{◌≡◌, ◌+◌, ◌-◌, ◌≤◌, ◌++◌, take}
+use Rattle.std.proofs.Common.{◌≡◌, ◌≤◌, ◌++◌, take}
 use Rattle.rule.specs.Spans.{span}
 use Rattle.rule.specs.Lists.{chooses}
 use Rattle.rule.proofs.listing.settle.Given as goal

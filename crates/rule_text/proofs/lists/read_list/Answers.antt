@@ -1,4 +1,4 @@
-use Rattle.std.proofs.Common.{◌≡◌, ℕ, ◌+◌, ◌≤◌, List, [], ◌∷◌, length, Some, None, Option, sym, refl, ap, ◌∙◌, arith, rules}
+use Rattle.std.proofs.Common.{ℕ, ◌+◌, ◌≤◌, [], Some, Option, sym, refl, ap, ◌∙◌, arith, rules}
 use Rattle.recurrence.specs.declared.parts.Few.{Few}
 use Rattle.rule_text.specs.Lists.{fields_at, pushed, if_some, entries_named}
 use Rattle.rule_text.proofs.Fielding.{one_field, more_fields, rest_shorter}

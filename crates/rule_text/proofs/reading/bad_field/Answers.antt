@@ -1,6 +1,4 @@
-use Rattle.std.proofs.Common.{◌≡◌, ℕ, List, [], ◌∷◌, Result, sym, refl, ap, ◌∙◌, arith}
-use Rattle.refusal.specs.declared.Refusal.{Refusal}
-use Rattle.rule_text.specs.declared.parts.Parts.{Parts}
+use Rattle.std.proofs.Common.{[], sym, ap, ◌∙◌, arith}
 use Rattle.rule_text.specs.Lists.{fields_at}
 use Rattle.rule_text.specs.Reading.{refused_in, bad_field}
 use Rattle.rule_text.proofs.Fielding.{one_field, more_fields, rest_shorter}

@@ -1,9 +1,7 @@
-use Rattle.std.proofs.Common.{◌≡◌, ℕ, ◌+◌, true, List, [], ◌∷◌, ◌++◌, take, Some, None, Option, sym, refl, ap, ◌∙◌, subst}
+use Rattle.std.proofs.Common.{◌≡◌, ◌+◌, List, [], ◌∷◌, ◌++◌, take, sym, refl, ap, ◌∙◌, subst}
 use Rattle.std.proofs.lemmas.List.{take_more, take_all}
 use Rattle.series.specs.declared.changes.Override.{Override}
-use Rattle.series.specs.Marks.{mark_on, overrides_fit}
 use Rattle.series.specs.Plans.{plan_of, overrides_of}
-use Rattle.upcoming.specs.declared.keys.Key.{Key}
 use Rattle.upcoming.specs.Kinds.{Plain}
 use Rattle.upcoming.specs.Least.{Next}
 use Rattle.upcoming.specs.Shown.{Shows}

@@ -1,7 +1,7 @@
 use Rattle.std.proofs.Common.{◌≡◌, ℕ, ◌≤◌, Some, None, sym, ap, ◌∙◌, ⊎_elim, arith}
 use Rattle.std.proofs.lemmas.Bool.{cases_eq}
 use Rattle.series.specs.Members.{Mem}
-use Rattle.series.specs.Plans.{Plan, plan_of}
+use Rattle.series.specs.Plans.{plan_of}
 use Rattle.upcoming.proofs.Finds.{First, found, all_mem}
 use Rattle.upcoming.proofs.Moving.{unmarked, marked}
 use Rattle.upcoming.proofs.plains.first_plain.Goals as goal

@@ -1,4 +1,4 @@
-use Rattle.std.proofs.Common.{◌≡◌, ℕ, ◌*◌, ◌<◌, ◌≤◌, length, vec_items, vec_len, refl, arith, rules}
+use Rattle.std.proofs.Common.{◌≡◌, ◌*◌, ◌<◌, ◌≤◌, length, vec_len, refl, arith, rules}
 use Rattle.diary.specs.States.{state_of}
 use Rattle.diary.proofs.Agendas.{printed_explained, asked_explained}
 use Rattle.diary.proofs.Planned.{plans_ascend}

@@ -1,4 +1,4 @@
-use Rattle.std.proofs.Common.{◌≡◌, ℕ, min, sym, ◌∙◌}
+use Rattle.std.proofs.Common.{min}
 use Rattle.source.specs.Intervals.{Cut}
 use Rattle.source.specs.Ticks.{placed}
 use Rattle.source.proofs.intervals.Interval.places.Goals as goal

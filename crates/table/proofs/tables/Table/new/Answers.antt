@@ -1,4 +1,4 @@
-use Rattle.std.proofs.Common.{◌≡◌, ap, ◌∙◌, arith}
+use Rattle.std.proofs.Common.{ap, ◌∙◌, arith}
 use Rattle.table.specs.Rows.{climbs}
 use Rattle.table.specs.Climbing.{climb}
 use Rattle.table.proofs.tables.Table.new.Goals as goal

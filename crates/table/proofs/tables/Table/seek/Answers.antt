@@ -1,4 +1,4 @@
-use Rattle.std.proofs.Common.{ℕ, vec_items, vec_len, arith}
+use Rattle.std.proofs.Common.{vec_items, vec_len, arith}
 use Rattle.series.specs.Values.{uid_octets}
 use Rattle.store.specs.Pairs.{key}
 use Rattle.store.specs.Keys.{ordered_keys, rising_in, seats}
