@@ -1,13 +1,13 @@
 // The program: reads its arguments, prints the event's lines and a last line that says what it did.
 #![tactic(auto)]
 
-use anyhow::anyhow;
 use arguments::jobs::read;
 use arguments::prints::print;
 use rule_text::reading::bad_field;
 use std::alloc::AllocError;
 use std::env::FillError;
 use std::io::Write;
+use std::process::ExitCode;
 use std::rt::Env;
 
 // One word more than there may be arguments, so that a surplus is seen.
@@ -47,7 +47,7 @@ fn name_part(rt: &HostRuntime, rule: &[u8]) -> anyhow::Result<()> {
     Ok(())
 }
 
-fn run(rt: &HostRuntime) -> anyhow::Result<()> {
+fn run(rt: &HostRuntime) -> anyhow::Result<ExitCode> {
     let heap = rt.alloc();
     let all = words(rt)?;
     let mut octets: Vec<&[u8]> = Vec::new(heap);
@@ -61,7 +61,7 @@ fn run(rt: &HostRuntime) -> anyhow::Result<()> {
             if octets.len() == WORDS - 1 {
                 name_part(rt, octets[2])?;
             }
-            return Err(anyhow!("the arguments are refused"));
+            return Ok(ExitCode::FAILURE);
         }
     };
     let mut page = vec![in heap; 0u8; PAGE_OCTETS]?;
@@ -69,15 +69,15 @@ fn run(rt: &HostRuntime) -> anyhow::Result<()> {
     match print(&command, page.as_mut_slice(), &mut len) {
         Ok(_) => {
             rt.stdout().write_all(&page[0..len])?;
-            Ok(())
+            Ok(ExitCode::SUCCESS)
         }
         Err(_) => {
             eprintln!(rt; "agenda: the page is full")?;
-            Err(anyhow!("the page is full"))
+            Ok(ExitCode::FAILURE)
         }
     }
 }
 
-fn main(rt: HostRuntime) -> anyhow::Result<()> {
+fn main(rt: HostRuntime) -> anyhow::Result<ExitCode> {
     run(&rt)
 }
