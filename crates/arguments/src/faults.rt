@@ -70,6 +70,7 @@ fn reason(refusal: Refusal) -> &'static str {
         Refusal::BadPart => "has a part that is unknown, repeated or malformed, or no FREQ",
         Refusal::RuleConflict => "has parts that may not stand together",
         Refusal::StartNotPicked => "does not pick its start",
+        Refusal::PageFull => "does not fit the page",
         Refusal::BadWindow => "lies before the first day",
         // no argument is refused otherwise
         _ => "is refused",

@@ -1,6 +1,6 @@
 -- The days of an ascending list tell it, and those of two lists joined are the days of both.
 use Rattle.std.proofs.Common.{◌≡◌, ℕ, ◌<◌, Bool, true, false, ◌||◌, eqb, List, [], ◌∷◌, sym, refl, ap, ◌∙◌, ⊎_elim, arith}
-use Rattle.std.specs.List.{AllByRecursion as All}
+use Rattle.std.specs.List.{AllByRecursion}
 use Rattle.std.proofs.ByRecursion.{All-weaker}
 use Rattle.std.proofs.lemmas.Bool.{both_ways, cases_order, eq-eqb, ne_eqb}
 use Rattle.std.proofs.lemmas.Bool.Decides.{eqb_tells}
@@ -8,7 +8,7 @@ use Rattle.source.specs.Days.{Ascending, among}
 use Rattle.dates.specs.Unions.{slot, merged, Joined}
 use Rattle.dates.specs.Merges.{slot_after, slot_at, slot_first, merged_ascends}
 
-none_among : (d : ℕ) (xs : List ℕ) → All (λ y. d < y) xs → among d xs ≡ false
+none_among : (d : ℕ) (xs : List ℕ) → AllByRecursion (λ y. d < y) xs → among d xs ≡ false
 none_among d [] a = refl
 none_among d (x ∷ xs) a = rw (ne_eqb d x (omega (arith, a.0))) (none_among d xs a.1)
 

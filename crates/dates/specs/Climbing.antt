@@ -1,7 +1,7 @@
 -- Climbing lists: their parts, and that they ascend within bounds.
 use Rattle.std.specs.Prelude.{◌≡◌, ℕ, zero, suc, ◌+◌, ◌<◌, ◌≤◌, true, false, ◌&&◌, ◌⊎◌, List, [], ◌∷◌, length, take, drop, nat_le, refl}
 use Rattle.std.proofs.Common.{◌∙◌, ⊎_elim, arith}
-use Rattle.std.specs.List.{AllByRecursion as All}
+use Rattle.std.specs.List.{AllByRecursion}
 use Rattle.std.proofs.ByRecursion.{All-weaker}
 use Rattle.std.proofs.lemmas.List.{length-drop}
 use Rattle.std.proofs.lemmas.Bool.{and_parts, and_from, and_left, and_right, leb-true, le-leb, lt-leb}
@@ -44,7 +44,7 @@ climbs_drop n (suc k) (x ∷ xs) h = climbs_drop (x + 1) k xs (step n x xs h).2
 pub holdable_drop : (k : ℕ) (xs : List ℕ) → length xs ≤ 24 → climbs 0 xs ≡ true → holdable (drop k xs) ≡ true
 holdable_drop k xs l h = and_from (nat_le (length (drop k xs)) 24) (climbs 0 (drop k xs)) (le-leb (length (drop k xs)) 24 (omega (arith, length-drop k xs))) (climbs_drop 0 k xs h)
 
-climbs_from : (n : ℕ) (xs : List ℕ) → climbs n xs ≡ true → All (λ y. n ≤ y) xs
+climbs_from : (n : ℕ) (xs : List ℕ) → climbs n xs ≡ true → AllByRecursion (λ y. n ≤ y) xs
 climbs_from n [] h = tt
 climbs_from n (x ∷ xs) h =
     let s = step n x xs h in
@@ -56,6 +56,6 @@ climbs_ascend n (x ∷ xs) h =
     let s = step n x xs h in
     (All-weaker (λ y. x + 1 ≤ y) (λ y. x < y) (λ y l. omega arith) xs (climbs_from (x + 1) xs s.2), climbs_ascend (x + 1) xs s.2)
 
-pub climbs_bounded : (n : ℕ) (xs : List ℕ) → climbs n xs ≡ true → All (λ y. y ≤ 109572) xs
+pub climbs_bounded : (n : ℕ) (xs : List ℕ) → climbs n xs ≡ true → AllByRecursion (λ y. y ≤ 109572) xs
 climbs_bounded n [] h = tt
 climbs_bounded n (x ∷ xs) h = let s = step n x xs h in (s.1, climbs_bounded (x + 1) xs s.2)

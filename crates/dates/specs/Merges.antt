@@ -1,7 +1,7 @@
 -- Two lists joined: they ascend, and a filter of the whole is one of both sides.
 use Rattle.std.specs.Prelude.{◌≡◌, ℕ, ◌<◌, min, Bool, true, false, List, [], ◌∷◌, Some, None, filter, Option, nat_le, nat_lt, refl}
 use Rattle.std.proofs.Common.{sym, ap, subst, ◌∙◌, ⊎_elim, arith}
-use Rattle.std.specs.List.{AllByRecursion as All}
+use Rattle.std.specs.List.{AllByRecursion}
 use Rattle.std.proofs.ByRecursion.{All-weaker, all_kept_by}
 use Rattle.std.proofs.lemmas.Bool.{cases_Bool, cases_order, lt-ltb, le-ltb, eq-eqb, ne_eqb}
 use Rattle.source.specs.Days.{Ascending, since, head_of}
@@ -17,17 +17,17 @@ slot_at y x xs h = rw (le-ltb x y (omega arith), eq-eqb x y h)
 pub slot_first : (y x : ℕ) (xs : List ℕ) → y < x → slot y (x ∷ xs) ≡ y ∷ x ∷ xs
 slot_first y x xs h = rw (le-ltb x y (omega arith), ne_eqb x y (omega arith))
 
-slot_under : (y : ℕ) (xs : List ℕ) → All (λ x. y < x) xs → slot y xs ≡ y ∷ xs
+slot_under : (y : ℕ) (xs : List ℕ) → AllByRecursion (λ x. y < x) xs → slot y xs ≡ y ∷ xs
 slot_under y [] a = refl
 slot_under y (x ∷ xs) a = slot_first y x xs a.0
 
-all_slot : (P : ℕ → Type 0) (y : ℕ) (xs : List ℕ) → P y → All P xs → All P (slot y xs)
+all_slot : (P : ℕ → Type 0) (y : ℕ) (xs : List ℕ) → P y → AllByRecursion P xs → AllByRecursion P (slot y xs)
 all_slot P y [] h a = (h, tt)
 all_slot P y (x ∷ xs) h a =
-    ⊎_elim (λ e. subst (All P) (sym (slot_at y x xs e)) a)
+    ⊎_elim (λ e. subst (AllByRecursion P) (sym (slot_at y x xs e)) a)
     (⊎_elim
-    (λ l. subst (All P) (sym (slot_after y x xs l)) (a.0, all_slot P y xs h a.1))
-    (λ g. subst (All P) (sym (slot_first y x xs g)) (h, a)))
+    (λ l. subst (AllByRecursion P) (sym (slot_after y x xs l)) (a.0, all_slot P y xs h a.1))
+    (λ g. subst (AllByRecursion P) (sym (slot_first y x xs g)) (h, a)))
     (cases_order x y)
 
 slot_ascends : (y : ℕ) (xs : List ℕ) → Ascending xs → Ascending (slot y xs)
@@ -43,7 +43,7 @@ pub merged_ascends : (xs ys : List ℕ) → Ascending xs → Ascending (merged x
 merged_ascends xs [] a = a
 merged_ascends xs (y ∷ ys) a = slot_ascends y (merged xs ys) (merged_ascends xs ys a)
 
-pub all_merged : (P : ℕ → Type 0) (xs ys : List ℕ) → All P xs → All P ys → All P (merged xs ys)
+pub all_merged : (P : ℕ → Type 0) (xs ys : List ℕ) → AllByRecursion P xs → AllByRecursion P ys → AllByRecursion P (merged xs ys)
 all_merged P xs [] a b = a
 all_merged P xs (y ∷ ys) a b = all_slot P y (merged xs ys) b.0 (all_merged P xs ys a b.1)
 
@@ -63,7 +63,7 @@ slot_kept p y (x ∷ xs) h a =
     (λ (f : p x ≡ false). rw f (slot_kept p y xs h a.1))
     (cases_Bool (p x)))
     (λ (g : y < x).
-    let under : All (λ z. y < z) (x ∷ xs) = (g, All-weaker (λ z. x < z) (λ z. y < z) (λ z l. omega arith) xs a.0) in
+    let under : AllByRecursion (λ z. y < z) (x ∷ xs) = (g, All-weaker (λ z. x < z) (λ z. y < z) (λ z l. omega arith) xs a.0) in
     ap (filter p) (slot_first y x xs g) ∙ keeps ∙ sym (slot_under y (filter p (x ∷ xs)) (all_kept_by p (λ z. y < z) (x ∷ xs) under))))
     (cases_order x y)
   where
@@ -109,7 +109,7 @@ head_slot y (x ∷ xs) =
     (cases_order x y)
 
 -- y lies before all that follows it
-pinched : (o : Option ℕ) (y : ℕ) (ys : List ℕ) → All (λ z. y < z) ys → sooner (sooner o (head_of ys)) (Some y) ≡ sooner o (Some y)
+pinched : (o : Option ℕ) (y : ℕ) (ys : List ℕ) → AllByRecursion (λ z. y < z) ys → sooner (sooner o (head_of ys)) (Some y) ≡ sooner o (Some y)
 pinched None y [] a = refl
 pinched None y (z ∷ zs) a = ap (λ k. Some k) (let e : min z y ≡ y = omega (arith, a.0) in e)
 pinched (Some x) y [] a = refl

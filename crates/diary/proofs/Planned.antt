@@ -1,7 +1,7 @@
 -- The plans of a store's pairs, as a list and as a map.
 use Rattle.std.proofs.Common.{◌≡◌, ℕ, Bool, true, false, cond, List, [], ◌∷◌, Some, refl, ap}
 use Rattle.std.specs.Option.{option_map}
-use Rattle.std.specs.List.{AllByRecursion as All}
+use Rattle.std.specs.List.{AllByRecursion}
 use Rattle.std.specs.Str.{bytes_eq}
 use Rattle.series.specs.Order.{Ahead, precedes}
 use Rattle.series.specs.Plans.{Plan, plan_of}
@@ -33,7 +33,7 @@ module _ {S : Type 0} (days : S → List ℕ) where
       go false true e = refl
       go false false e = ap (λ ys. (key p, plan_of days p.series) ∷ ys) e
 
-  all_plans : (u : List ℕ) (ps : List (Pair S)) → All (λ p. Ahead u (key p)) ps → All (λ e. Ahead u e.0) (plans_of days ps)
+  all_plans : (u : List ℕ) (ps : List (Pair S)) → AllByRecursion (λ p. Ahead u (key p)) ps → AllByRecursion (λ e. Ahead u e.0) (plans_of days ps)
   all_plans u [] a = tt
   all_plans u (p ∷ ps) a = (a.0, all_plans u ps a.1)
 

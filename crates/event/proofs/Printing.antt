@@ -1,6 +1,6 @@
 -- The agenda while its lines are added, day by day.
 use Rattle.std.proofs.Common.{◌≡◌, ℕ, ◌+◌, ◌<◌, ◌≤◌, true, false, ltb, leb, List, [], ◌∷◌, ◌++◌, length, Some, None, filter, Option, sym, refl, ap, ◌∙◌, subst, ⊎_elim, arith}
-use Rattle.std.specs.List.{flat_map, AllByRecursion as All}
+use Rattle.std.specs.List.{flat_map, AllByRecursion}
 use Rattle.std.proofs.ByRecursion.{All-weaker, All-from_get_or}
 use Rattle.std.proofs.lemmas.List.{append-nil, append_assoc, length-append}
 use Rattle.std.proofs.lemmas.Bool.{cases_lt, and_from, and_right, and_parts, le-leb, lt-ltb, le-ltb, leb-true}
@@ -125,7 +125,7 @@ pub record Next (clock end : ℕ) (days : List ℕ) (next day : ℕ) : Type 0 wh
   pub bound : day ≤ 109572
   pub after : next ≤ day
 
-pub next_day : (clock end : ℕ) (days : List ℕ) (next day : ℕ) → All (λ d. d ≤ 109572) days → Some day ≡ early clock end (first_from next days) → Next clock end days next day
+pub next_day : (clock end : ℕ) (days : List ℕ) (next day : ℕ) → AllByRecursion (λ d. d ≤ 109572) days → Some day ≡ early clock end (first_from next days) → Next clock end days next day
 next_day clock end days next day a e =
     let s = early_some clock end day (first_from next days) e in
     record { first = s.0; before = s.1; bound = first_has (λ d. d ≤ 109572) next day days a s.0; after = first_is_from next day days s.0 }

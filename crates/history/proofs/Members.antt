@@ -1,6 +1,6 @@
 -- Members of lists: of two joined, of a mapped and of a filtered one; an ordered list is known by its members.
 use Rattle.std.proofs.Common.{◌≡◌, Bool, true, false, cond, ◌⊎◌, ◌↔◌, List, [], ◌∷◌, ◌++◌, map, filter, sym, refl, ap, ◌∙◌, subst, ap₂, inl, inr}
-use Rattle.std.specs.List.{AllByRecursion as All}
+use Rattle.std.specs.List.{AllByRecursion}
 use Rattle.series.specs.Members.{Mem, Ordered}
 
 pub mem_append_left : {X : Type 0} (x : X) (xs ys : List X) → Mem x xs → Mem x (xs ++ ys)
@@ -45,19 +45,19 @@ kept_mem p {x} (z ∷ xs) h = go (p z) refl (kept_mem p xs) h
     go true e ih (inr m) = (inr (ih m).0, (ih m).1)
     go false e ih m = (inr (ih m).0, (ih m).1)
 
-pub all_mem : {X : Type 0} (P : X → Type 0) (x : X) (xs : List X) → All P xs → Mem x xs → P x
+pub all_mem : {X : Type 0} (P : X → Type 0) (x : X) (xs : List X) → AllByRecursion P xs → Mem x xs → P x
 all_mem P x [] a m = absurd m
 all_mem P x (y ∷ ys) a (inl e) = subst P (sym e) a.0
 all_mem P x (y ∷ ys) a (inr m) = all_mem P x ys a.1 m
 
 -- two lists in a strict order with the same members are the same list
 module _ {X : Type 0} (R : X → X → Type 0) (asym : (x y : X) → R x y → R y x → ⊥) where
-  heads : (x y : X) (xs ys : List X) → All (R x) xs → All (R y) ys → Mem x (y ∷ ys) → Mem y (x ∷ xs) → x ≡ y
+  heads : (x y : X) (xs ys : List X) → AllByRecursion (R x) xs → AllByRecursion (R y) ys → Mem x (y ∷ ys) → Mem y (x ∷ xs) → x ≡ y
   heads x y xs ys a b (inl e) n = e
   heads x y xs ys a b (inr m) (inl e) = sym e
   heads x y xs ys a b (inr m) (inr n) = absurd (asym x y (all_mem (R x) y xs a n) (all_mem (R y) x ys b m))
 
-  behind : (x y : X) (xs ys : List X) → x ≡ y → All (R x) xs → ((z : X) → Mem z (x ∷ xs) → Mem z (y ∷ ys)) → (z : X) → Mem z xs → Mem z ys
+  behind : (x y : X) (xs ys : List X) → x ≡ y → AllByRecursion (R x) xs → ((z : X) → Mem z (x ∷ xs) → Mem z (y ∷ ys)) → (z : X) → Mem z xs → Mem z ys
   behind x y xs ys e a h z m = elim (h z (inr m)) [
     | inl q ↦ (let r : R x z = all_mem (R x) z xs a m in let s : R x x = subst (R x) (q ∙ sym e) r in absurd (asym x x s s))
     | inr k ↦ k

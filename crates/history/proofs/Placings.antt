@@ -1,7 +1,7 @@
 -- The ordered list of plans and the map that it stands for.
 use Rattle.std.proofs.Common.{◌≡◌, ℕ, true, false, cond, ◌⊎◌, List, [], ◌∷◌, ◌++◌, Some, None, Option, sym, refl, ap, ◌∙◌, subst, inl, inr}
 use mathlib.Core.Path.{fun_ext}
-use Rattle.std.specs.List.{AllByRecursion as All}
+use Rattle.std.specs.List.{AllByRecursion}
 use Rattle.std.specs.Str.{bytes_eq}
 use Rattle.series.specs.Members.{Mem}
 use Rattle.series.specs.Order.{Ahead, precedes}
@@ -14,7 +14,7 @@ use Rattle.history.proofs.Members.{mem_append, mem_append_left, mem_append_right
 use Rattle.history.proofs.Maps.{same_uid, other_uid, decide, some_inj, none_some}
 
 abbrev Above : List ℕ → Plans → Type 0
-Above u ps = All (λ q. Ahead u q.0) ps
+Above u ps = AllByRecursion (λ q. Ahead u q.0) ps
 
 lower : (u w : List ℕ) (ps : Plans) → Ahead u w → Above w ps → Above u ps
 lower u w [] h a = tt

@@ -1,6 +1,6 @@
 -- What each edit puts, given the plan of its UID.
 use Rattle.std.specs.Prelude.{◌≡◌, None}
-use Rattle.std.specs.List.{AllByRecursion as All}
+use Rattle.std.specs.List.{AllByRecursion}
 use Rattle.series.specs.Plans.{Plan}
 use Rattle.history.specs.Items.{Edit, cancel, alter, whole, split, edit_new}
 use Rattle.history.specs.CancelPuts.{cancel_puts}
@@ -17,4 +17,4 @@ edit_puts (split e) p = split_puts e p
 
 -- the UIDs that the edit brings in have no plan
 abbrev pub NewFree : Edit → Map → Type 0
-NewFree e f = All (λ u. f u ≡ None) (edit_new e)
+NewFree e f = AllByRecursion (λ u. f u ≡ None) (edit_new e)

@@ -1,6 +1,6 @@
 -- From places to UIDs: the nodes that the merge gives are the agenda.
 use Rattle.std.proofs.Common.{◌≡◌, ℕ, zero, suc, ◌<◌, ◌≤◌, true, ◌&&◌, ltb, leb, List, [], ◌∷◌, map, length, Some, None, Option, sym, refl, ap, ◌∙◌, subst, inl, inr, ⊎_elim, arith}
-use Rattle.std.specs.List.{flat_map, AllByRecursion as All}
+use Rattle.std.specs.List.{flat_map, AllByRecursion}
 use Rattle.std.proofs.lemmas.Bool.{cases_lt, and_from, and_parts, le-leb, lt-ltb, leb-true, ltb-true}
 use Rattle.history.specs.Agendas.{Before, in_window, IsAgenda}
 use Rattle.history.specs.States.{occurrences}
@@ -68,7 +68,7 @@ module _ {S : Type 0} (days : S → List ℕ) where
   place_in (q ∷ ps) (suc p) s d h = mem_append_right _ (occurrences_of (key q) (plan_of days q.series)) (occurrences (plans_of days ps)) (place_in ps p s d h)
 
   -- the UIDs ascend by place
-  all_at : (u : List ℕ) (ps : List (Pair S)) (j : ℕ) → j < length ps → All (λ q. Ahead u (key q)) ps → Ahead u (uid_by (pair_at ps j))
+  all_at : (u : List ℕ) (ps : List (Pair S)) (j : ℕ) → j < length ps → AllByRecursion (λ q. Ahead u (key q)) ps → Ahead u (uid_by (pair_at ps j))
   all_at u [] j l a = let z : ⊥ = omega arith in absurd z
   all_at u (p ∷ ps) zero l a = a.0
   all_at u (p ∷ ps) (suc j) l a = all_at u ps j (omega arith) a.1

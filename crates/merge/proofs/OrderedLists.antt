@@ -1,6 +1,6 @@
 -- Lists in order: one more at the end, each mapped, and what a list writes that has every member of another.
 use Rattle.std.proofs.Common.{◌≡◌, ◌+◌, ◌≤◌, ◌⊎◌, List, [], ◌∷◌, ◌++◌, map, length, sym, refl, ap, ◌∙◌, subst, inl, inr, arith}
-use Rattle.std.specs.List.{flat_map, AllByRecursion as All}
+use Rattle.std.specs.List.{flat_map, AllByRecursion}
 use Rattle.std.proofs.ByRecursion.{All-push}
 use Rattle.std.proofs.lemmas.List.{length-append}
 use Rattle.series.specs.Members.{Mem, Ordered}
@@ -14,7 +14,7 @@ ordered_push R x [] o h = (tt, tt)
 ordered_push R x (y ∷ ys) o h = (All-push (R y) ys x o.0 (h y (inl refl)), ordered_push R x ys o.1 (λ z m. h z (inr m)))
 
 module _ {X Y : Type 0} (f : X → Y) where
-  all_to : (P : X → Type 0) (Q : Y → Type 0) (xs : List X) → ((x : X) → Mem x xs → P x → Q (f x)) → All P xs → All Q (map f xs)
+  all_to : (P : X → Type 0) (Q : Y → Type 0) (xs : List X) → ((x : X) → Mem x xs → P x → Q (f x)) → AllByRecursion P xs → AllByRecursion Q (map f xs)
   all_to P Q [] h a = tt
   all_to P Q (x ∷ xs) h a = (h x (inl refl) a.0, all_to P Q xs (λ y m. h y (inr m)) a.1)
 

@@ -1,6 +1,6 @@
 -- What is on the page while the merge goes on.
 use Rattle.std.proofs.Common.{◌≡◌, ℕ, ◌+◌, ◌*◌, ◌/◌, ◌%◌, ◌<◌, ◌≤◌, true, List, [], ◌∷◌, ◌++◌, map, length, set, decimal, sym, refl, ap, ◌∙◌, subst, arith}
-use Rattle.std.specs.List.{flat_map, AllByRecursion as All}
+use Rattle.std.specs.List.{flat_map, AllByRecursion}
 use Rattle.std.proofs.lemmas.List.{append-nil, length-append, length-map, length_push, length-set, map_push}
 use Rattle.calendar.specs.Dates.{date_of}
 use Rattle.calendar.specs.Starts.{is_window}
@@ -54,7 +54,7 @@ module _ {S : Type 0} (days : S → List ℕ) (ps : List (Pair S)) where
     pub page : Added (written nodes) o p l m
     pub kept : Kept o p l
 
-module _ {S : Type 0} (days : S → List ℕ) (bounded : (s : S) → All (λ d. d ≤ 109572) (days s)) (ps : List (Pair S)) (ascends : Ascends ps) (small : length ps < 18446744073709551616) (from end : ℕ) where
+module _ {S : Type 0} (days : S → List ℕ) (bounded : (s : S) → AllByRecursion (λ d. d ≤ 109572) (days s)) (ps : List (Pair S)) (ascends : Ascends ps) (small : length ps < 18446744073709551616) (from end : ℕ) where
   abbrev P : ℕ → ℕ → ℕ → Type 0
   P = ShowsAt days ps
 

@@ -1,7 +1,7 @@
 -- A text cut at the first octet of a kind, octet by octet.
 use Rattle.std.proofs.Common.{◌≡◌, ℕ, ◌+◌, ◌<◌, ◌≤◌, true, false, eqb, List, [], ◌∷◌, ◌++◌, length, get_or, take, drop, Some, None, Option, sym, refl, ap, ◌∙◌, ⊎_elim, arith}
 use Rattle.std.specs.Option.{option_map}
-use Rattle.std.specs.List.{AllByRecursion as All}
+use Rattle.std.specs.List.{AllByRecursion}
 use Rattle.std.proofs.lemmas.Bool.{eq-eqb, ne_eqb}
 use Rattle.std.proofs.lemmas.Bool.Decides.{eqb_tells}
 use Rattle.std.proofs.lemmas.List.{append-nil, append_assoc, at_drop_more, at_drop_all, take_more}
@@ -58,6 +58,6 @@ cut_joins x (y ∷ ys) a b e =
         ap (λ zs. y ∷ zs) (ih p f) ∙ (λ j. h j ++ (x ∷ k j))
 
 -- and a text put together is cut there, where the first field lacks the mark
-pub cut_finds : (x : ℕ) (a b : List ℕ) → All (λ y. y ≡ x → ⊥) a → cut_at x (a ++ (x ∷ b)) ≡ Some (a, b)
+pub cut_finds : (x : ℕ) (a b : List ℕ) → AllByRecursion (λ y. y ≡ x → ⊥) a → cut_at x (a ++ (x ∷ b)) ≡ Some (a, b)
 cut_finds x [] b h = rw (eq-eqb x x refl)
 cut_finds x (y ∷ a) b h = rw (ne_eqb y x h.0) (ap (option_map (λ p. (y ∷ p.0, p.1))) (cut_finds x a b h.1))

@@ -1,6 +1,6 @@
 -- Moments by their spelling.
 use Rattle.std.proofs.Common.{◌≡◌, ℕ, ◌+◌, ◌*◌, ◌/◌, ◌%◌, ◌≤◌, true, false, ◌&&◌, eqb, leb, List, ◌∷◌, Some, Ok, Result, sym, refl, ap, ◌∙◌, subst, ⊎_elim, arith}
-use Rattle.std.specs.List.{AllByRecursion as All}
+use Rattle.std.specs.List.{AllByRecursion}
 use Rattle.std.proofs.ByRecursion.{All-append}
 use Rattle.std.proofs.lemmas.Bool.{and_parts, cases_Bool, leb-true, le-leb, eqb-true}
 use Rattle.calendar.specs.declared.starts.Moment.{Moment}
@@ -84,7 +84,7 @@ moment_is_named xs m s =
     rw (c, d, t, k, s.exists) refl
 
 -- a moment's text has no slash
-pub moment_lacks : (xs : List ℕ) (m : Moment) → SpellsMoment xs m → All (λ y. y ≡ 47 → ⊥) xs
+pub moment_lacks : (xs : List ℕ) (m : Moment) → SpellsMoment xs m → AllByRecursion (λ y. y ≡ 47 → ⊥) xs
 moment_lacks xs m s =
-    subst (All (λ y. y ≡ 47 → ⊥)) (sym s.text)
+    subst (AllByRecursion (λ y. y ≡ 47 → ⊥)) (sym s.text)
     (All-append (λ y. y ≡ 47 → ⊥) s.date (84 ∷ s.time) (digits_lack_slash s.date s.dated.digits) ((λ e. omega (arith, e)), digits_lack_slash s.time s.timed.digits))

@@ -1,17 +1,17 @@
 -- Numerals by their digits.
 use Rattle.std.proofs.Common.{◌≡◌, ℕ, ◌<◌, ◌≤◌, true, false, ◌&&◌, leb, List, [], ◌∷◌, length, Some, None, Option, refl, ap, ⊎_elim, arith}
-use Rattle.std.specs.List.{AllByRecursion as All}
+use Rattle.std.specs.List.{AllByRecursion}
 use Rattle.std.proofs.ByRecursion.{All-weaker}
 use Rattle.std.proofs.lemmas.Bool.{and_parts, and_from, cases_Bool, leb-true, le-leb}
 use Rattle.notation.specs.Digits.{is_digit, all_digits, value_from, is_numeral, numeral}
 use Rattle.notation.specs.Spelling.{Writes}
 use Rattle.notation.proofs.Values.{digit_range}
 
-digits_all : (xs : List ℕ) → all_digits xs ≡ true → All (λ x. (48 ≤ x) × (x ≤ 57)) xs
+digits_all : (xs : List ℕ) → all_digits xs ≡ true → AllByRecursion (λ x. (48 ≤ x) × (x ≤ 57)) xs
 digits_all [] e = tt
 digits_all (x ∷ xs) e = let p = and_parts (is_digit x) (all_digits xs) e in (digit_range x p.0, digits_all xs p.1)
 
-digits_are_all : (xs : List ℕ) → All (λ x. (48 ≤ x) × (x ≤ 57)) xs → all_digits xs ≡ true
+digits_are_all : (xs : List ℕ) → AllByRecursion (λ x. (48 ≤ x) × (x ≤ 57)) xs → all_digits xs ≡ true
 digits_are_all [] a = refl
 digits_are_all (x ∷ xs) a = and_from (is_digit x) (all_digits xs) (and_from (leb 48 x) (leb x 57) (le-leb 48 x a.0.0) (le-leb x 57 a.0.1)) (digits_are_all xs a.1)
 
@@ -31,8 +31,8 @@ numeral_from least most xs n w =
     rw (le-leb least (length xs) w.enough, le-leb (length xs) most w.few, digits_are_all xs w.digits) (ap (λ k. Some k) w.value)
 
 -- digits lack every other octet
-pub digits_lack : (x : ℕ) (xs : List ℕ) → 57 < x → All (λ y. (48 ≤ y) × (y ≤ 57)) xs → All (λ y. y ≡ x → ⊥) xs
+pub digits_lack : (x : ℕ) (xs : List ℕ) → 57 < x → AllByRecursion (λ y. (48 ≤ y) × (y ≤ 57)) xs → AllByRecursion (λ y. y ≡ x → ⊥) xs
 digits_lack x xs h a = All-weaker (λ y. (48 ≤ y) × (y ≤ 57)) (λ y. y ≡ x → ⊥) (λ y r e. omega (arith, r.1, e)) xs a
 
-pub digits_lack_slash : (xs : List ℕ) → All (λ y. (48 ≤ y) × (y ≤ 57)) xs → All (λ y. y ≡ 47 → ⊥) xs
+pub digits_lack_slash : (xs : List ℕ) → AllByRecursion (λ y. (48 ≤ y) × (y ≤ 57)) xs → AllByRecursion (λ y. y ≡ 47 → ⊥) xs
 digits_lack_slash xs a = All-weaker (λ y. (48 ≤ y) × (y ≤ 57)) (λ y. y ≡ 47 → ⊥) (λ y r e. omega (arith, r.0, e)) xs a

@@ -1,6 +1,6 @@
 -- Which texts spell an interval, as a grammar, and that just these are read.
 use Rattle.std.specs.Prelude.{◌≡◌, ℕ, ◌+◌, ◌*◌, ◌≤◌, List, [], ◌∷◌, ◌++◌, length, Some, Ok}
-use Rattle.std.specs.List.{AllByRecursion as All}
+use Rattle.std.specs.List.{AllByRecursion}
 use Rattle.calendar.specs.declared.starts.Moment.{Moment}
 use Rattle.calendar.specs.Dates.{day_at}
 use Rattle.notation.specs.declared.intervals.Spelled.{Spelled}
@@ -12,7 +12,7 @@ use Rattle.notation.specs.Intervals.{interval_named}
 pub record Writes (least most : ℕ) (xs : List ℕ) (n : ℕ) : Type 0 where
   pub enough : least ≤ length xs
   pub few : length xs ≤ most
-  pub digits : All (λ x. (48 ≤ x) × (x ≤ 57)) xs
+  pub digits : AllByRecursion (λ x. (48 ≤ x) × (x ≤ 57)) xs
   pub value : value_from 0 xs ≡ n
 
 -- yyyymmdd, T, hhmm, 00: a date that exists, and a time from 0000 to 2359

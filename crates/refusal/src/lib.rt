@@ -3,7 +3,7 @@
 
 ghost use Rattle.std.specs.Prelude.{◌≡◌, ℕ};
 ghost use Rattle.refusal.specs.Numbers.{number as number_of};
-ghost use Rattle.refusal.specs.declared.Refusal.{Refusal as Any};
+ghost use Rattle.refusal.specs.declared.Refusal.{Refusal as AnyRefusal};
 
 #[derive(Clone, Copy, PartialEq, Eq, Debug)]
 pub enum Refusal {
@@ -39,7 +39,7 @@ impl Refusal {
     // The number by which users know a refusal; no two have the same.
     pub fn number(self) -> u8
         ensures value { result ≡ number_of self }
-        ensures alone { (e : Any) → number_of e ≡ result → e ≡ self }
+        ensures alone { (e : AnyRefusal) → number_of e ≡ result → e ≡ self }
     {
         match self {
             Refusal::Malformed => 7,

@@ -1,7 +1,7 @@
 -- The days of a rule's list are the days that are meant.
 use Rattle.std.proofs.Common.{◌≡◌, ℕ, zero, suc, ◌+◌, ◌-◌, ◌*◌, ◌/◌, ◌%◌, ◌<◌, ◌≤◌, Bool, true, false, ◌||◌, eqb, ltb, List, [], ◌∷◌, ◌++◌, length, take, Some, None, Option, sym, refl, ap, ◌∙◌, subst, ⊎_elim, le_trans, add-mul, div-add-mod', le-div_iff_mul-le, div-mul-le_self, arith}
 use native.Mathlib.Nat.{add-mul-mod_self_right}
-use Rattle.std.specs.List.{AllByRecursion as All}
+use Rattle.std.specs.List.{AllByRecursion}
 use Rattle.std.proofs.ByRecursion.{All-weaker}
 use Rattle.std.proofs.lemmas.Bool.Decides.{eqb_tells}
 use Rattle.std.proofs.lemmas.Bool.{cases_lt, cases_Bool, and_parts, and_from, or_left, or_right, eqb-true, eq-eqb, lt-ltb, le-ltb}
@@ -25,7 +25,7 @@ use Rattle.rule.proofs.Refusals.{all_limited}
 
 -- ---- members of a list
 
-among_all : (P : ℕ → Type 0) (d : ℕ) (xs : List ℕ) → All P xs → among d xs ≡ true → P d
+among_all : (P : ℕ → Type 0) (d : ℕ) (xs : List ℕ) → AllByRecursion P xs → among d xs ≡ true → P d
 unfolding among
 among_all P d [] a t = let z : ◌≡◌ {A = ℕ} 0 1 = cc in absurd (omega arith)
 among_all P d (x ∷ xs) a t =
@@ -53,7 +53,7 @@ among_next d x xs e = ap (λ b. b || any (λ y. eqb y d) xs) e
 
 -- ---- the first so many
 
-none_before : (d : ℕ) (xs : List ℕ) → All (λ y. d ≤ y) xs → before d xs ≡ []
+none_before : (d : ℕ) (xs : List ℕ) → AllByRecursion (λ y. d ≤ y) xs → before d xs ≡ []
 none_before d xs a = kept_none (λ x. ltb x d) xs (All-weaker (λ y. d ≤ y) (λ y. ltb y d ≡ false) (λ y h. le-ltb y d h) xs a)
 
 before_next : (d x : ℕ) (xs : List ℕ) → length (before d (x ∷ xs)) ≤ suc (length (before d xs))
@@ -89,7 +89,7 @@ first_in d (suc k) (x ∷ xs) a t h =
 
 -- ---- a span
 
-passes : (f : ℕ → Bool) (a n : ℕ) → All (λ x. f x ≡ true) (chosen f a n)
+passes : (f : ℕ → Bool) (a n : ℕ) → AllByRecursion (λ x. f x ≡ true) (chosen f a n)
 passes f a zero = tt
 passes f a (suc n) = ⊎_elim (λ t. rw t (t, passes f (suc a) n)) (λ t. rw t (passes f (suc a) n)) (cases_Bool (f a))
 
@@ -148,7 +148,7 @@ lists_meant r d =
     let f = chooses r.pattern r.start in
     let xs = span (chooses r.pattern r.start) r.start (stop r.until) in
     let asc = ascends (chooses r.pattern r.start) r.start (stop r.until - r.start) in
-    let has : (P : ℕ → Type 0) → All P (span (chooses r.pattern r.start) r.start (stop r.until)) → among d (days_in r) ≡ true → P d =
+    let has : (P : ℕ → Type 0) → AllByRecursion P (span (chooses r.pattern r.start) r.start (stop r.until)) → among d (days_in r) ≡ true → P d =
     λ P a t. among_all P d (days_in r) (all_limited P r.count (span (chooses r.pattern r.start) r.start (stop r.until)) a) t in (
       λ t.
           let low : r.start ≤ d = has (λ x. r.start ≤ x) (from (chooses r.pattern r.start) r.start (stop r.until - r.start)) t in
@@ -162,7 +162,7 @@ lists_meant r d =
       λ m. left_in r.count d xs asc (in_span (chooses r.pattern r.start) r.start (stop r.until) d m.from_start m.to_last (due_chosen r.pattern r.start d m.due)) m.left,
     )
   where
-    under : (f : ℕ → Bool) (a b : ℕ) → All (λ x. x < b) (span f a b)
+    under : (f : ℕ → Bool) (a b : ℕ) → AllByRecursion (λ x. x < b) (span f a b)
     under f a b =
         ⊎_elim (λ (l : a < b). until f a (b - a) b (omega arith))
         (λ (l : b ≤ a). let z : b - a ≡ 0 = omega arith in rw z tt) (cases_lt a b)

@@ -1,6 +1,6 @@
 -- What is refused, and what is left where nothing is.
 use Rattle.std.proofs.Common.{◌≡◌, ℕ, zero, suc, ◌+◌, ◌-◌, ◌<◌, ◌≤◌, Bool, true, false, not, ◌&&◌, eqb, leb, List, [], ◌∷◌, take, is_some, Some, None, Option, sym, refl, ap, ◌∙◌, subst, ⊎_elim, arith}
-use Rattle.std.specs.List.{AllByRecursion as All}
+use Rattle.std.specs.List.{AllByRecursion}
 use Rattle.std.proofs.ByRecursion.{All-weaker, All-take}
 use Rattle.std.proofs.lemmas.Bool.Decides.{eqb_tells}
 use Rattle.std.proofs.lemmas.Bool.{cases_lt, cases_Bool, both_ways, and_parts, and_from, or_parts, or_from, or_left, leb-true, eq-eqb, ne_eqb}
@@ -18,22 +18,22 @@ use Rattle.rule.specs.SpansLemmas.{from, skip, found, void}
 
 -- ---- the start among the days
 
-among_late : (s : ℕ) (xs : List ℕ) → All (λ x. s < x) xs → among s xs ≡ false
+among_late : (s : ℕ) (xs : List ℕ) → AllByRecursion (λ x. s < x) xs → among s xs ≡ false
 unfolding among
 among_late s [] a = refl
 among_late s (x ∷ xs) a = or_from (eqb x s) (any (λ y. eqb y s) xs) (ne_eqb x s (λ e. omega (arith, a.0))) (among_late s xs a.1)
 
-pub all_limited : (P : ℕ → Type 0) (c : Option ℕ) (xs : List ℕ) → All P xs → All P (limited c xs)
+pub all_limited : (P : ℕ → Type 0) (c : Option ℕ) (xs : List ℕ) → AllByRecursion P xs → AllByRecursion P (limited c xs)
 all_limited P None xs a = a
 all_limited P (Some k) xs a = All-take P k xs a
 
-not_first : (f : ℕ → Bool) (s e : ℕ) → f s ≡ false → All (λ x. s < x) (span f s e)
+not_first : (f : ℕ → Bool) (s e : ℕ) → f s ≡ false → AllByRecursion (λ x. s < x) (span f s e)
 not_first f s e t =
     ⊎_elim
     (λ (l : s < e).
-    subst (λ (xs : List ℕ). All (λ x. s < x) xs) (sym (skip f s (s + 1) e (omega arith) (omega arith) (λ k a b. let q : s ≡ k = omega arith in rw q at t)))
+    subst (λ (xs : List ℕ). AllByRecursion (λ x. s < x) xs) (sym (skip f s (s + 1) e (omega arith) (omega arith) (λ k a b. let q : s ≡ k = omega arith in rw q at t)))
     (All-weaker (λ x. s + 1 ≤ x) (λ x. s < x) (λ x h. omega arith) (span f (s + 1) e) (from f (s + 1) (e - (s + 1)))))
-    (λ (l : e ≤ s). subst (λ (xs : List ℕ). All (λ x. s < x) xs) (sym (void f s e l)) tt)
+    (λ (l : e ≤ s). subst (λ (xs : List ℕ). AllByRecursion (λ x. s < x) xs) (sym (void f s e l)) tt)
     (cases_lt s e)
 
 -- a start that is not chosen is not among the days, nor is one past the last day
@@ -43,7 +43,7 @@ unchosen p s u c t = among_late s (days_of p s u c) (all_limited (λ x. s < x) c
 pub too_late : (p : Option Pattern) (s : ℕ) (u c : Option ℕ) → stop u ≤ s → among s (days_of p s u c) ≡ false
 too_late p s u c h =
     among_late s (days_of p s u c)
-    (all_limited (λ x. s < x) c (span (chooses p s) s (stop u)) (subst (λ (xs : List ℕ). All (λ x. s < x) xs) (sym (void (chooses p s) s (stop u) h)) tt))
+    (all_limited (λ x. s < x) c (span (chooses p s) s (stop u)) (subst (λ (xs : List ℕ). AllByRecursion (λ x. s < x) xs) (sym (void (chooses p s) s (stop u) h)) tt))
 
 among_here : (s : ℕ) (xs : List ℕ) → among s (s ∷ xs) ≡ true
 unfolding among

@@ -3,7 +3,7 @@ use Rattle.std.specs.Prelude.{◌≡◌, ℕ, ◌+◌, ◌-◌, ◌<◌, ◌≤�
 use Rattle.std.proofs.Common.{sym, ap, subst, ◌∙◌, ⊎_elim, arith}
 use Rattle.std.proofs.lemmas.Bool.{true≢false, cases_lt, lt-leb, le-leb, lt-ltb, le-ltb}
 use Rattle.std.proofs.lemmas.List.Filters.{length-filter_both}
-use Rattle.std.specs.List.{AllByRecursion as All}
+use Rattle.std.specs.List.{AllByRecursion}
 use Rattle.std.proofs.ByRecursion.{All-weaker}
 use Rattle.calendar.specs.Years.{last_day}
 use Rattle.source.specs.Days.{Ascending, head_of, first_from, before, since}
@@ -25,9 +25,9 @@ module _ (p : Option Pattern) (s : ℕ) (u c : Option ℕ) (e : ℕ) (settled : 
   pub ascending : Ascending (days_of p s u c)
   ascending = subst (λ (xs : List ℕ). Ascending xs) (sym settled) (ascends (chooses p s) s (e - s))
 
-  pub bounded : s < 109573 → e ≤ stop u → stop u ≤ 109573 → All (λ d. d ≤ last_day) (days_of p s u c)
+  pub bounded : s < 109573 → e ≤ stop u → stop u ≤ 109573 → AllByRecursion (λ d. d ≤ last_day) (days_of p s u c)
   bounded b h l =
-      subst (λ (xs : List ℕ). All (λ d. d ≤ last_day) xs) (sym settled)
+      subst (λ (xs : List ℕ). AllByRecursion (λ d. d ≤ last_day) xs) (sym settled)
       (All-weaker (λ d. d < max s e) (λ d. d ≤ last_day) (λ d m. omega arith) (span (chooses p s) s e) (until (chooses p s) s (e - s) (max s e) (omega arith)))
 
   pub first_some : (d r : ℕ) → First (chooses p s) (max s d) e r → r < e → Some r ≡ first_from d (days_of p s u c)

@@ -2,7 +2,7 @@
 use Rattle.std.specs.Prelude.{◌≡◌, ℕ, zero, suc, ◌+◌, ◌-◌, ◌<◌, ◌≤◌, min, max, Bool, true, false, ltb, List, [], ◌∷◌, ◌++◌, length, take, nat_lt, refl}
 use Rattle.std.proofs.Common.{sym, ap, ◌∙◌, append_assoc, ⊎_elim, arith}
 use Rattle.std.proofs.lemmas.Bool.{cases_lt, cases_Bool, lt-ltb, le-ltb, lt-leb}
-use Rattle.std.specs.List.{AllByRecursion as All}
+use Rattle.std.specs.List.{AllByRecursion}
 use Rattle.std.proofs.ByRecursion.{All-weaker}
 use Rattle.source.specs.Days.{Ascending, head_of, first_from, before, since}
 use Rattle.source.specs.Kept.{kept_none}
@@ -18,14 +18,14 @@ chosen_out : (f : ℕ → Bool) (a n : ℕ) → f a ≡ false → chosen f a (su
 chosen_out f a n t = rw t
 
 -- the days from a on lie from a on
-pub from : (f : ℕ → Bool) (a n : ℕ) → All (λ x. a ≤ x) (chosen f a n)
+pub from : (f : ℕ → Bool) (a n : ℕ) → AllByRecursion (λ x. a ≤ x) (chosen f a n)
 from f a zero = tt
 from f a (suc n) =
     let more = All-weaker (λ x. suc a ≤ x) (λ x. a ≤ x) (λ x h. omega arith) (chosen f (suc a) n) (from f (suc a) n) in
     ⊎_elim (λ t. rw t (omega arith, more)) (λ t. rw t more) (cases_Bool (f a))
 
 -- and before the end
-pub until : (f : ℕ → Bool) (a n e : ℕ) → a + n ≤ e → All (λ x. x < e) (chosen f a n)
+pub until : (f : ℕ → Bool) (a n e : ℕ) → a + n ≤ e → AllByRecursion (λ x. x < e) (chosen f a n)
 until f a zero e h = tt
 until f a (suc n) e h =
     let more = until f (suc a) n e (omega arith) in

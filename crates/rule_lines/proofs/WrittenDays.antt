@@ -1,6 +1,6 @@
 -- A day and a minute as UNTIL has them are read back.
 use Rattle.std.proofs.Common.{◌≡◌, ℕ, ◌+◌, ◌-◌, ◌*◌, ◌/◌, ◌%◌, ◌<◌, ◌≤◌, List, [], ◌∷◌, ◌++◌, Ok, codes, sym, refl, ap, ◌∙◌, subst, arith}
-use Rattle.std.specs.List.{AllByRecursion as All}
+use Rattle.std.specs.List.{AllByRecursion}
 use Rattle.std.proofs.ByRecursion.{All-append, All-weaker}
 use Rattle.calendar.specs.declared.date.Date.{Date}
 use Rattle.calendar.specs.Dates.{date_of, day_at}
@@ -18,10 +18,10 @@ use Rattle.rule_lines.proofs.WrittenNumbers.{Plain}
 abbrev Digit : ℕ → Type 0
 Digit x = (48 ≤ x) × (x ≤ 57)
 
-two_digits : (n : ℕ) → All Digit (two n)
+two_digits : (n : ℕ) → AllByRecursion Digit (two n)
 two_digits n = ((omega arith, omega arith), ((omega arith, omega arith), tt))
 
-four_digits : (n : ℕ) → All Digit (four n)
+four_digits : (n : ℕ) → AllByRecursion Digit (four n)
 four_digits n = ((omega arith, omega arith), ((omega arith, omega arith), two_digits n))
 
 two_value : (m n : ℕ) → n < 100 → value_from m (two n) ≡ m * 100 + n
@@ -110,11 +110,11 @@ spells d c h k =
 pub moment_read : (d c : ℕ) → d < 109573 → c < 1440 → moment_named (moment_text d c) ≡ Ok (record { day = d; clock = c })
 moment_read d c h k = moment_is_named (moment_text d c) _ (spells d c h k)
 
-pub moment_plain : (d c : ℕ) → d < 109573 → c < 1440 → All Plain (moment_text d c)
+pub moment_plain : (d c : ℕ) → d < 109573 → c < 1440 → AllByRecursion Plain (moment_text d c)
 moment_plain d c h k =
     let s = spells d c h k in
-    subst (All Plain) (sym s.text)
+    subst (AllByRecursion Plain) (sym s.text)
     (All-append Plain s.date (84 ∷ s.time) (plain s.date s.dated.digits) (((λ e. omega (arith, e)), (λ e. omega (arith, e))), plain s.time s.timed.digits))
   where
-    plain : (xs : List ℕ) → All Digit xs → All Plain xs
+    plain : (xs : List ℕ) → AllByRecursion Digit xs → AllByRecursion Plain xs
     plain xs a = All-weaker Digit Plain (λ y r. ((λ e. omega (arith, r.0, e)), (λ e. omega (arith, r.1, e)))) xs a

@@ -1,6 +1,6 @@
 -- The entries of the lists are read back.
 use Rattle.std.proofs.Common.{◌≡◌, ℕ, ◌+◌, ◌-◌, ◌<◌, ◌≤◌, Bool, true, leb, List, [], ◌∷◌, ◌++◌, length, decimal, Option, refl, ap, ◌∙◌, arith}
-use Rattle.std.specs.List.{AllByRecursion as All}
+use Rattle.std.specs.List.{AllByRecursion}
 use Rattle.std.proofs.ByRecursion.{All-append}
 use Rattle.std.proofs.lemmas.List.{length-append, take_at, drop_at}
 use Rattle.std.proofs.lemmas.Bool.{and_parts, leb-true, le-leb}
@@ -22,7 +22,7 @@ use Rattle.rule_lines.proofs.WrittenNumbers.{Plain, decimal_plain, decimal_short
 pub up_to : (low high n : ℕ) → within low high n ≡ true → n ≤ high
 up_to low high n e = leb-true n high (and_parts (leb low n) (leb n high) e).1
 
-minus_plain : (n : ℕ) → n < 100 → All Plain (45 ∷ decimal n)
+minus_plain : (n : ℕ) → n < 100 → AllByRecursion Plain (45 ∷ decimal n)
 minus_plain n h = (((λ e. omega (arith, e)), (λ e. omega (arith, e))), decimal_plain n (omega arith))
 
 month_read : (m : ℕ) → month_fits m ≡ true → Read month_named decimal m
@@ -46,7 +46,7 @@ ordinal_read (FromEnd n) e =
     record { back = from_end FromStart FromEnd n h; plain = minus_plain n h }
 
 -- two letters
-letters : (x y : ℕ) → 65 ≤ x → 65 ≤ y → All Plain (x ∷ y ∷ [])
+letters : (x y : ℕ) → 65 ≤ x → 65 ≤ y → AllByRecursion Plain (x ∷ y ∷ [])
 letters x y h k = (((λ e. omega arith), (λ e. omega arith)), (((λ e. omega arith), (λ e. omega arith)), tt))
 
 weekday_read : (w : Weekday) → Read weekday_named weekday_text w
@@ -82,15 +82,15 @@ day_entry_read e f =
     }
 
 module _ {X : Type 0} (named : List ℕ → Option X) (text : X → List ℕ) (fits : X → Bool) (each : (x : X) → fits x ≡ true → Read named text x) where
-  all_read : (xs : List X) → all fits xs ≡ true → All (Read named text) xs
+  all_read : (xs : List X) → all fits xs ≡ true → AllByRecursion (Read named text) xs
   all_read [] e = tt
   all_read (x ∷ xs) e = let p = and_parts (fits x) (all fits xs) e in (each x p.0, all_read xs p.1)
 
-pub months_read : (xs : List ℕ) → all month_fits xs ≡ true → All (Read month_named decimal) xs
+pub months_read : (xs : List ℕ) → all month_fits xs ≡ true → AllByRecursion (Read month_named decimal) xs
 months_read = all_read month_named decimal month_fits month_read
 
-pub month_days_read : (xs : List MonthDay) → all month_day_fits xs ≡ true → All (Read month_day_named month_day_text) xs
+pub month_days_read : (xs : List MonthDay) → all month_day_fits xs ≡ true → AllByRecursion (Read month_day_named month_day_text) xs
 month_days_read = all_read month_day_named month_day_text month_day_fits month_day_read
 
-pub day_entries_read : (xs : List DayEntry) → all day_entry_fits xs ≡ true → All (Read day_entry_named day_entry_text) xs
+pub day_entries_read : (xs : List DayEntry) → all day_entry_fits xs ≡ true → AllByRecursion (Read day_entry_named day_entry_text) xs
 day_entries_read = all_read day_entry_named day_entry_text day_entry_fits day_entry_read

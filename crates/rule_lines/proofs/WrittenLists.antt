@@ -1,6 +1,6 @@
 -- Lists of entries are read back.
 use Rattle.std.proofs.Common.{◌≡◌, ℕ, ◌+◌, ◌<◌, ◌≤◌, List, [], ◌∷◌, ◌++◌, map, length, Some, Option, sym, refl, ap, ◌∙◌, subst, arith}
-use Rattle.std.specs.List.{flat_map, AllByRecursion as All}
+use Rattle.std.specs.List.{flat_map, AllByRecursion}
 use Rattle.std.proofs.ByRecursion.{All-append, All-weaker}
 use Rattle.std.proofs.lemmas.List.{append-nil, append_assoc, length_push, length-set, length-replicate, take_more_set}
 use Rattle.std.proofs.lemmas.Bool.{lt-ltb}
@@ -14,7 +14,7 @@ use Rattle.rule_lines.proofs.WrittenNumbers.{Plain}
 -- an entry's text is read back, and has no mark in it
 pub record Read {X : Type 0} (named : List ℕ → Option X) (text : X → List ℕ) (x : X) : Type 0 where
   pub back : named (text x) ≡ Some x
-  pub plain : All Plain (text x)
+  pub plain : AllByRecursion Plain (text x)
 
 -- the entries of a list are just these
 pub record Holds {X : Type 0} (few : Few X) (xs : List X) : Type 0 where
@@ -49,17 +49,17 @@ module _ {X : Type 0} where
   few_holds blank xs h = all_pushed xs _ [] (omega arith) (record { len = refl; items = refl; room = length-replicate 12 blank })
 
 module _ {X : Type 0} (named : List ℕ → Option X) (text : X → List ℕ) where
-  entries_read : (xs : List X) (few : Few X) → All (Read named text) xs → entries_named named (map text xs) few ≡ Some (pushed_all few xs)
+  entries_read : (xs : List X) (few : Few X) → AllByRecursion (Read named text) xs → entries_named named (map text xs) few ≡ Some (pushed_all few xs)
   entries_read [] few h = refl
   entries_read (x ∷ xs) few h = rw h.0.back (entries_read xs (pushed few x) h.1)
 
-  pub few_read : (blank x : X) (xs : List X) → All (Read named text) (x ∷ xs) → few_named named blank (text x ++ flat_map (λ y. 44 ∷ text y) xs) ≡ Some (few_of blank (x ∷ xs))
+  pub few_read : (blank x : X) (xs : List X) → AllByRecursion (Read named text) (x ∷ xs) → few_named named blank (text x ++ flat_map (λ y. 44 ∷ text y) xs) ≡ Some (few_of blank (x ∷ xs))
   few_read blank x xs h =
       ap (λ fs. entries_named named fs (none blank))
       (fields_joined 44 text x xs (All-weaker (Read named text) (λ y. Lacks 44 (text y)) (λ y r. All-weaker Plain (λ z. z ≡ 44 → ⊥) (λ z p. p.0) (text y) r.plain) (x ∷ xs) h))
       ∙ entries_read (x ∷ xs) (none blank) h
 
-  pub few_lacks : (xs : List X) → All (Read named text) xs → Lacks 59 (flat_map (λ y. 44 ∷ text y) xs)
+  pub few_lacks : (xs : List X) → AllByRecursion (Read named text) xs → Lacks 59 (flat_map (λ y. 44 ∷ text y) xs)
   few_lacks [] h = tt
   few_lacks (x ∷ xs) h =
       All-append (λ y. y ≡ 59 → ⊥) (44 ∷ text x) (flat_map (λ y. 44 ∷ text y) xs) ((λ e. omega (arith, e)), All-weaker Plain (λ z. z ≡ 59 → ⊥) (λ z p. p.1) (text x) h.0.plain) (few_lacks xs h.1)

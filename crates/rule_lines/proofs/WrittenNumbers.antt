@@ -1,7 +1,7 @@
 -- Decimals are read back, and have no mark in them.
 use Rattle.std.proofs.Common.{◌≡◌, ℕ, ◌^◌, ◌<◌, ◌≤◌, min, true, List, [], ◌∷◌, length, Some, decimal, refl, ap, ◌∙◌, arith, rules}
 use Rattle.std.specs.Option.{option_map}
-use Rattle.std.specs.List.{AllByRecursion as All}
+use Rattle.std.specs.List.{AllByRecursion}
 use Rattle.std.proofs.lemmas.Fmt.{decimal_nonempty, digits_decimal, length-decimal-le, digits_value-decimal}
 use Rattle.std.proofs.lemmas.Str.Parse.{IsNumeralModel, numerals_by_fold}
 use Rattle.std.proofs.lemmas.Bool.{and_parts, le-leb, ne_eqb}
@@ -17,7 +17,7 @@ Plain y = (y ≡ 44 → ⊥) × (y ≡ 59 → ⊥)
 own : IsNumeralModel (λ ds. all_digits ds ≡ true) (value_from 0)
 own = numerals_by_fold _ (search rules) value_from (search rules)
 
-pub digits_plain : (xs : List ℕ) → all_digits xs ≡ true → All Plain xs
+pub digits_plain : (xs : List ℕ) → all_digits xs ≡ true → AllByRecursion Plain xs
 digits_plain [] e = tt
 digits_plain (x ∷ xs) e =
     let p = and_parts (is_digit x) (all_digits xs) e in
@@ -31,7 +31,7 @@ module _ (n : ℕ) (h : n < 2 ^ 64) where
   pub decimal_value : value_from 0 (decimal n) ≡ n
   decimal_value = digits_value-decimal own n h
 
-  pub decimal_plain : All Plain (decimal n)
+  pub decimal_plain : AllByRecursion Plain (decimal n)
   decimal_plain = digits_plain (decimal n) decimal_digits
 
 pub decimal_short : (n : ℕ) → n < 100 → numeral 1 2 (decimal n) ≡ Some n

@@ -1,6 +1,6 @@
 -- The parts of a recurrence's text are read back, one after the other.
 use Rattle.std.proofs.Common.{◌≡◌, ℕ, ◌-◌, ◌<◌, ◌≤◌, Bool, true, cond, not, ◌&&◌, eqb, List, [], ◌∷◌, ◌++◌, Some, None, Ok, codes, decimal, Option, Result, refl, ap, ◌∙◌, ⊎_elim, arith}
-use Rattle.std.specs.List.{flat_map, AllByRecursion as All}
+use Rattle.std.specs.List.{flat_map, AllByRecursion}
 use Rattle.std.proofs.ByRecursion.{All-append, All-weaker}
 use Rattle.std.proofs.lemmas.List.{append-nil}
 use Rattle.std.proofs.lemmas.Bool.{and_parts, cases_Bool, eqb-false, not-true}
@@ -43,13 +43,13 @@ unfolding lackb
 by_test [] e = tt
 by_test (y ∷ ys) e = let p = and_parts (not (eqb y 59)) (lackb ys) e in (eqb-false y 59 (not-true (eqb y 59) p.0), by_test ys p.1)
 
-plain_lacks : (ys : List ℕ) → All Plain ys → Lacks 59 ys
+plain_lacks : (ys : List ℕ) → AllByRecursion Plain ys → Lacks 59 ys
 plain_lacks ys a = All-weaker Plain (λ z. z ≡ 59 → ⊥) (λ z p. p.1) ys a
 
 behind_name : (name ys : List ℕ) → lackb name ≡ true → Lacks 59 ys → Lacks 59 (name ++ ys)
 behind_name name ys e h = All-append (λ z. z ≡ 59 → ⊥) name ys (by_test name e) h
 
-list_lacks : {X : Type 0} (named : List ℕ → Option X) (text : X → List ℕ) (x : X) (xs : List X) → All (Read named text) (x ∷ xs) → Lacks 59 (text x ++ flat_map (λ y. 44 ∷ text y) xs)
+list_lacks : {X : Type 0} (named : List ℕ → Option X) (text : X → List ℕ) (x : X) (xs : List X) → AllByRecursion (Read named text) (x ∷ xs) → Lacks 59 (text x ++ flat_map (λ y. 44 ∷ text y) xs)
 list_lacks named text x xs h = All-append (λ z. z ≡ 59 → ⊥) (text x) (flat_map (λ y. 44 ∷ text y) xs) (plain_lacks (text x) h.0.plain) (few_lacks named text xs h.1)
 
 -- ---- what stands behind a part: nothing, or a semicolon and the next
@@ -161,7 +161,7 @@ module _ (f : Option Frequency) (i : Option ℕ) (w : Option Weekday) where
       (behind_name (codes "UNTIL=") v refl (plain_lacks v (moment_plain (d - 1) clock l h))) b (given_once _ (At (record { day = d - 1; clock = clock })) _ (ap limited (moment_read (d - 1) clock l h))))
 
   module _ (n : Option ℕ) (u : Option Limit) where
-    pub months_read : (xs : List ℕ) (ys : List ℕ) → All (Read month_named decimal) xs → Behind ys
+    pub months_read : (xs : List ℕ) (ys : List ℕ) → AllByRecursion (Read month_named decimal) xs → Behind ys
         → read_behind (list_text (codes ";BYMONTH=") decimal xs ++ ys) (parts_of f i w n u None None None) ≡ read_behind ys (parts_of f i w n u (list_part 0 xs) None None)
     unfolding same_text lackb
     months_read [] ys h b = refl
@@ -170,7 +170,7 @@ module _ (f : Option Frequency) (i : Option ℕ) (w : Option Weekday) where
         front (codes "BYMONTH=" ++ v) ys (parts_of f i w n u None None None) (parts_of f i w n u (list_part 0 (x ∷ xs)) None None)
         (behind_name (codes "BYMONTH=") v refl (list_lacks month_named decimal x xs h)) b (given_once _ (few_of 0 (x ∷ xs)) _ (few_read month_named decimal 0 x xs h))
 
-    pub month_days_read : (m : Option (Few ℕ)) (xs : List MonthDay) (ys : List ℕ) → All (Read month_day_named month_day_text) xs → Behind ys
+    pub month_days_read : (m : Option (Few ℕ)) (xs : List MonthDay) (ys : List ℕ) → AllByRecursion (Read month_day_named month_day_text) xs → Behind ys
         → read_behind (list_text (codes ";BYMONTHDAY=") month_day_text xs ++ ys) (parts_of f i w n u m None None) ≡ read_behind ys (parts_of f i w n u m (list_part (monthDays.FromStart 0) xs) None)
     unfolding same_text lackb
     month_days_read m [] ys h b = refl
@@ -179,7 +179,7 @@ module _ (f : Option Frequency) (i : Option ℕ) (w : Option Weekday) where
         front (codes "BYMONTHDAY=" ++ v) ys (parts_of f i w n u m None None) (parts_of f i w n u m (list_part (monthDays.FromStart 0) (x ∷ xs)) None)
         (behind_name (codes "BYMONTHDAY=") v refl (list_lacks month_day_named month_day_text x xs h)) b (given_once _ (few_of (monthDays.FromStart 0) (x ∷ xs)) _ (few_read month_day_named month_day_text (monthDays.FromStart 0) x xs h))
 
-    pub week_days_read : (m : Option (Few ℕ)) (d : Option (Few MonthDay)) (xs : List DayEntry) (ys : List ℕ) → All (Read day_entry_named day_entry_text) xs → Behind ys
+    pub week_days_read : (m : Option (Few ℕ)) (d : Option (Few MonthDay)) (xs : List DayEntry) (ys : List ℕ) → AllByRecursion (Read day_entry_named day_entry_text) xs → Behind ys
         → read_behind (list_text (codes ";BYDAY=") day_entry_text xs ++ ys) (parts_of f i w n u m d None) ≡ read_behind ys (parts_of f i w n u m d (list_part blank_day xs))
     unfolding same_text lackb
     week_days_read m d [] ys h b = refl

@@ -1,11 +1,11 @@
 -- Whether a day is in an ascending list, by the first day from it on.
 use Rattle.std.proofs.Common.{◌≡◌, ℕ, ◌<◌, false, ◌||◌, eqb, List, [], ◌∷◌, Some, None, refl, ⊎_elim, arith}
-use Rattle.std.specs.List.{AllByRecursion as All}
+use Rattle.std.specs.List.{AllByRecursion}
 use Rattle.std.proofs.ByRecursion.{All-weaker}
 use Rattle.std.proofs.lemmas.Bool.Decides.{leb_tells, nat_tests}
 use Rattle.source.specs.Days.{Ascending, since, head_of, first_from, among}
 
-none_past : (d : ℕ) (xs : List ℕ) → All (λ x. d < x) xs → among d xs ≡ false
+none_past : (d : ℕ) (xs : List ℕ) → AllByRecursion (λ x. d < x) xs → among d xs ≡ false
 none_past d [] a = refl
 none_past d (x ∷ xs) a = let l = a.0 in let f : eqb d x ≡ false = grind (arith, nat_tests) in rw f (none_past d xs a.1)
 

@@ -1,7 +1,7 @@
 -- Ascending lists: what follows the first day from a number on.
 use Rattle.std.specs.Prelude.{◌≡◌, ℕ, ◌+◌, ◌<◌, ◌≤◌, min, Bool, true, false, ltb, leb, List, [], ◌∷◌, ◌++◌, Some, None, filter, nat_le, nat_lt, refl}
 use Rattle.std.proofs.Common.{sym, ap, subst, ◌∙◌, ⊎_elim, arith}
-use Rattle.std.specs.List.{AllByRecursion as All}
+use Rattle.std.specs.List.{AllByRecursion}
 use Rattle.std.proofs.ByRecursion.{All-weaker, all_kept_by, kept_by_passes}
 use Rattle.std.proofs.lemmas.Bool.{cases_Bool, cases_lt, le-leb, lt-leb, lt-ltb, le-ltb, leb-true}
 use Rattle.std.proofs.lemmas.Bool.Decides.{leb_tells}
@@ -14,15 +14,15 @@ kept_ascends p (x ∷ xs) a =
     ⊎_elim (λ t. rw t (all_kept_by p (λ y. x < y) xs a.0, kept_ascends p xs a.1)) (λ f. rw f (kept_ascends p xs a.1)) (cases_Bool (p x))
 
 -- a list that begins at or after d is all from d on
-pub since_whole : (d : ℕ) (xs : List ℕ) → All (λ x. d ≤ x) xs → since d xs ≡ xs
+pub since_whole : (d : ℕ) (xs : List ℕ) → AllByRecursion (λ x. d ≤ x) xs → since d xs ≡ xs
 since_whole d xs a = kept_all (λ x. leb d x) xs (All-weaker (λ x. d ≤ x) (λ x. nat_le d x ≡ true) (λ x h. le-leb d x h) xs a)
 
 -- and has none before d
-pub before_none : (d : ℕ) (xs : List ℕ) → All (λ x. d ≤ x) xs → before d xs ≡ []
+pub before_none : (d : ℕ) (xs : List ℕ) → AllByRecursion (λ x. d ≤ x) xs → before d xs ≡ []
 before_none d xs a = kept_none (λ x. ltb x d) xs (All-weaker (λ x. d ≤ x) (λ x. nat_lt x d ≡ false) (λ x h. le-ltb x d h) xs a)
 
 -- an ascending list begins with its first day
-pub from_first : (d x : ℕ) (xs : List ℕ) → Ascending (x ∷ xs) → d ≤ x → All (λ y. d ≤ y) (x ∷ xs)
+pub from_first : (d x : ℕ) (xs : List ℕ) → Ascending (x ∷ xs) → d ≤ x → AllByRecursion (λ y. d ≤ y) (x ∷ xs)
 from_first d x xs a l = (l, All-weaker (λ y. x < y) (λ y. d ≤ y) (λ y h. omega arith) xs a.0)
 
 -- the days before d and those from d on are all days
@@ -79,7 +79,7 @@ since_first d x (y ∷ ys) a e =
     (leb_tells d y)
 
 -- what holds of every day holds of the first from d on
-pub first_has : (P : ℕ → Type 0) (d x : ℕ) (xs : List ℕ) → All P xs → first_from d xs ≡ Some x → P x
+pub first_has : (P : ℕ → Type 0) (d x : ℕ) (xs : List ℕ) → AllByRecursion P xs → first_from d xs ≡ Some x → P x
 first_has P d x [] a e = let z : ◌≡◌ {A = ℕ} 0 1 = cc in absurd (omega arith)
 first_has P d x (y ∷ ys) a e =
     ⊎_elim
@@ -96,9 +96,9 @@ since_none d xs e = empty (since d xs) e
     empty (y ∷ ys) e = let z : ◌≡◌ {A = ℕ} 0 1 = cc in absurd (omega arith)
 
 -- no day from d on lies before the first of them
-pub since_later : (d x : ℕ) (xs : List ℕ) → Ascending xs → first_from d xs ≡ Some x → All (λ y. x ≤ y) (since d xs)
+pub since_later : (d x : ℕ) (xs : List ℕ) → Ascending xs → first_from d xs ≡ Some x → AllByRecursion (λ y. x ≤ y) (since d xs)
 since_later d x xs a e =
-    let more : All (λ y. x ≤ y) (since (x + 1) xs) =
+    let more : AllByRecursion (λ y. x ≤ y) (since (x + 1) xs) =
     All-weaker (λ y. nat_le (x + 1) y ≡ true) (λ y. x ≤ y) (λ y h. omega (arith, leb-true (x + 1) y h)) (since (x + 1) xs) (kept_by_passes (λ y. leb (x + 1) y) xs) in
-    let both : All (λ y. x ≤ y) (x ∷ since (x + 1) xs) = (omega arith, more) in
+    let both : AllByRecursion (λ y. x ≤ y) (x ∷ since (x + 1) xs) = (omega arith, more) in
     rw (since_first d x xs a e) both

@@ -1,11 +1,11 @@
 -- Ascending lists of days, and their parts before and from a day on.
 use Rattle.std.specs.Prelude.{ℕ, ◌<◌, Bool, true, false, ◌||◌, List, [], ◌∷◌, Some, None, filter, Option, ◌==◌, nat_le, nat_lt}
-use Rattle.std.specs.List.{AllByRecursion as All}
+use Rattle.std.specs.List.{AllByRecursion}
 
 -- each day lies before all that follow it
 abbrev pub Ascending : List ℕ → Type 0
 Ascending [] = Unit {0}
-Ascending (x ∷ xs) = All (λ y. x < y) xs × Ascending xs
+Ascending (x ∷ xs) = AllByRecursion (λ y. x < y) xs × Ascending xs
 
 -- the days before d
 abbrev pub before : ℕ → List ℕ → List ℕ

@@ -2,7 +2,7 @@
 use Rattle.std.specs.Prelude.{◌≡◌, ℕ, zero, suc, ◌+◌, ◌-◌, ◌*◌, ◌/◌, ◌<◌, ◌≤◌, min, cond, [], ◌∷◌, length, Some, None, nat_lt, refl}
 use Rattle.std.proofs.Common.{sym, ap, ◌∙◌, ⊎_elim, suc-mul, zero-mul, add-mul, mul-le-mul_right, div-mul-le_self, arith}
 use Rattle.std.proofs.Math.Nat.{lt-div-mul-add}
-use Rattle.std.specs.List.{AllByRecursion as All}
+use Rattle.std.specs.List.{AllByRecursion}
 use Rattle.std.proofs.ByRecursion.{All-weaker}
 use Rattle.std.proofs.lemmas.Bool.{cases_lt, lt-ltb, le-ltb, lt-leb}
 use Rattle.source.specs.Days.{Ascending, first_from, before, since, head_of}
@@ -10,7 +10,7 @@ use Rattle.source.specs.declared.intervals.Interval.{Interval}
 use Rattle.source.specs.Intervals.{ticks, Cut, Placed}
 use Rattle.source.specs.Ascents.{before_both, before_none, since_whole}
 
-ticks_from : (s k n a : ℕ) → a ≤ s → All (λ x. a ≤ x) (ticks s k n)
+ticks_from : (s k n a : ℕ) → a ≤ s → AllByRecursion (λ x. a ≤ x) (ticks s k n)
 ticks_from s k zero a h = tt
 ticks_from s k (suc n) a h = (h, ticks_from (s + k) k n a (omega arith))
 

@@ -1,6 +1,6 @@
 // Making an interval, and its days by arithmetic.
 ghost use Rattle.std.specs.Prelude.{◌≡◌, ℕ, ◌+◌, ◌*◌, ◌<◌, ◌≤◌, true, false, ltb, List, length, MatchResult, nat_lt};
-ghost use Rattle.std.specs.List.{AllByRecursion as All};
+ghost use Rattle.std.specs.List.{AllByRecursion};
 ghost use Rattle.calendar.specs.Years.{last_day};
 ghost use Rattle.refusal.specs.Numbers.{number};
 ghost use Rattle.source.specs.Days.{Ascending, first_from, before, since};

@@ -1,6 +1,6 @@
 // A source means a strictly ascending list of days, and answers for it.
 ghost use Rattle.std.specs.Prelude.{◌≡◌, ℕ, ◌≤◌, List};
-ghost use Rattle.std.specs.List.{AllByRecursion as All};
+ghost use Rattle.std.specs.List.{AllByRecursion};
 ghost use Rattle.calendar.specs.Years.{last_day};
 ghost use Rattle.source.specs.Days.{Ascending, first_from, before, since};
 
@@ -22,5 +22,5 @@ pub trait Source: Copy + Sized {
 
     ghost ascending: { (s : Self) → Ascending (days s) };
 
-    ghost bounded: { (s : Self) → All (λ d. d ≤ last_day) (days s) };
+    ghost bounded: { (s : Self) → AllByRecursion (λ d. d ≤ last_day) (days s) };
 }

@@ -1,6 +1,6 @@
 -- What is held after a put and after a removal, and that ascending pairs are known by what they hold.
 use Rattle.std.proofs.Common.{◌≡◌, ℕ, suc, true, false, cond, ◌⊎◌, List, [], ◌∷◌, length, Some, None, sym, refl, ap, ◌∙◌, subst, ⊎_elim, arith}
-use Rattle.std.specs.List.{AllByRecursion as All}
+use Rattle.std.specs.List.{AllByRecursion}
 use Rattle.std.specs.Str.{bytes_eq}
 use Rattle.std.specs.Option.{option_map}
 use Rattle.std.proofs.ByRecursion.{All-weaker}
@@ -44,13 +44,13 @@ module _ {S : Type 0} where
       (ways (key q) (key p))
 
   -- what stands ahead of all has no pair
-  pub found_ahead : (u : List ℕ) (ps : List (Pair S)) → All (λ p. Ahead u (key p)) ps → found u ps ≡ None
+  pub found_ahead : (u : List ℕ) (ps : List (Pair S)) → AllByRecursion (λ p. Ahead u (key p)) ps → found u ps ≡ None
   found_ahead u [] a = refl
   found_ahead u (p ∷ ps) a = rw (same_not (key p) u (behind_apart (key p) u a.0)) (found_ahead u ps a.1)
 
   -- the same, of the key of a pair that comes before
-  after_same : (p : Pair S) (u : List ℕ) (ps : List (Pair S)) → key p ≡ u → All (λ q. Ahead (key p) (key q)) ps → found u ps ≡ None
-  after_same p u ps e a = found_ahead u ps (subst (λ (k : List ℕ). All (λ (q : Pair S). Ahead k (key q)) ps) e a)
+  after_same : (p : Pair S) (u : List ℕ) (ps : List (Pair S)) → key p ≡ u → AllByRecursion (λ q. Ahead (key p) (key q)) ps → found u ps ≡ None
+  after_same p u ps e a = found_ahead u ps (subst (λ (k : List ℕ). AllByRecursion (λ (q : Pair S). Ahead k (key q)) ps) e a)
 
   pub found_without : (u v : List ℕ) (ps : List (Pair S)) → Ascends ps → found u (without v ps) ≡ cond (bytes_eq v u) None (found u ps)
   found_without u v [] h =
@@ -92,7 +92,7 @@ module _ {S : Type 0} where
       (same_tells v u)
 
   -- who stands ahead of all that are there, and of what is put, stands ahead of all that are then there
-  all_placed : (P : Pair S → Type 0) (q : Pair S) (ps : List (Pair S)) → P q → All P ps → All P (placed q ps)
+  all_placed : (P : Pair S → Type 0) (q : Pair S) (ps : List (Pair S)) → P q → AllByRecursion P ps → AllByRecursion P (placed q ps)
   all_placed P q [] h a = (h, tt)
   all_placed P q (p ∷ ps) h a =
       ⊎_elim
@@ -104,7 +104,7 @@ module _ {S : Type 0} where
       r)
       (ways (key q) (key p))
 
-  all_without : (P : Pair S → Type 0) (u : List ℕ) (ps : List (Pair S)) → All P ps → All P (without u ps)
+  all_without : (P : Pair S → Type 0) (u : List ℕ) (ps : List (Pair S)) → AllByRecursion P ps → AllByRecursion P (without u ps)
   all_without P u [] a = tt
   all_without P u (p ∷ ps) a =
       ⊎_elim
@@ -120,7 +120,7 @@ module _ {S : Type 0} where
       rw b.test ((b.ahead, All-weaker (λ (r : Pair S). Ahead (key p) (key r)) (λ (r : Pair S). Ahead (key q) (key r)) (λ r k. chain (key q) (key p) (key r) b.ahead k) ps h.0), h))
       (λ (r : Same (key q) (key p) ⊎ After (key q) (key p)).
       ⊎_elim
-      (λ (s : Same (key q) (key p)). rw (s.test, s.equal) (subst (λ (k : List ℕ). All (λ (r : Pair S). Ahead k (key r)) ps) s.same h.0, h.1))
+      (λ (s : Same (key q) (key p)). rw (s.test, s.equal) (subst (λ (k : List ℕ). AllByRecursion (λ (r : Pair S). Ahead k (key r)) ps) s.same h.0, h.1))
       (λ (f : After (key q) (key p)). rw (f.test, f.other) (all_placed (λ (r : Pair S). Ahead (key p) (key r)) q ps f.ahead h.0, ascends_placed q ps h.1))
       r)
       (ways (key q) (key p))
@@ -139,7 +139,7 @@ module _ {S : Type 0} where
   length_held q (p ∷ ps) s h e =
       ⊎_elim
       (λ (b : Before (key q) (key p)).
-      let all : All (λ (r : Pair S). Ahead (key q) (key r)) ps = All-weaker (λ (r : Pair S). Ahead (key p) (key r)) (λ (r : Pair S). Ahead (key q) (key r)) (λ r k. chain (key q) (key p) (key r) b.ahead k) ps h.0 in
+      let all : AllByRecursion (λ (r : Pair S). Ahead (key q) (key r)) ps = All-weaker (λ (r : Pair S). Ahead (key p) (key r)) (λ (r : Pair S). Ahead (key q) (key r)) (λ r k. chain (key q) (key p) (key r) b.ahead k) ps h.0 in
       let n : held (key q) (p ∷ ps) ≡ None = held_found (key q) (p ∷ ps) ∙ ap (option_map (λ (r : Pair S). r.series)) (found_ahead (key q) (p ∷ ps) (b.ahead, all)) in
       let z : ◌≡◌ {A = ℕ} 0 1 = cc in
       absurd (omega arith))
@@ -182,7 +182,7 @@ module _ {S : Type 0} where
   found_here : (p : Pair S) (ps : List (Pair S)) → found (key p) (p ∷ ps) ≡ Some p
   found_here p ps = rw (same_is (key p) (key p) refl)
 
-  all_ahead : (p q : Pair S) (qs : List (Pair S)) → Ahead (key p) (key q) → All (λ r. Ahead (key q) (key r)) qs → found (key p) (q ∷ qs) ≡ None
+  all_ahead : (p q : Pair S) (qs : List (Pair S)) → Ahead (key p) (key q) → AllByRecursion (λ r. Ahead (key q) (key r)) qs → found (key p) (q ∷ qs) ≡ None
   all_ahead p q qs h a = found_ahead (key p) (q ∷ qs) (h, All-weaker (λ (r : Pair S). Ahead (key q) (key r)) (λ (r : Pair S). Ahead (key p) (key r)) (λ r k. chain (key p) (key q) (key r) h k) qs a)
 
   pub known_by_found : (ps qs : List (Pair S)) → Ascends ps → Ascends qs → ((u : List ℕ) → found u ps ≡ found u qs) → ps ≡ qs

@@ -1,6 +1,6 @@
 -- Pairs by their places: what stands at one, and that writing at the place that a search gives is a put or a removal.
 use Rattle.std.proofs.Common.{◌≡◌, ℕ, zero, suc, ◌+◌, ◌<◌, ◌≤◌, false, List, [], ◌∷◌, map, length, get_or, set, Some, None, sym, refl, ap, ◌∙◌, subst, arith}
-use Rattle.std.specs.List.{insert, remove, AllByRecursion as All}
+use Rattle.std.specs.List.{insert, remove, AllByRecursion}
 use Rattle.std.specs.Str.{bytes_eq}
 use Rattle.std.specs.Option.{option_map}
 use Rattle.series.specs.Order.{Ahead}
@@ -11,7 +11,7 @@ use Rattle.store.specs.Keys.{Before, Same, After, before_is, same_at, after_is, 
 use Rattle.store.proofs.Holdings.{held_found}
 
 -- a key ahead of all is ahead of the one at i
-seat_ahead : (k : List ℕ) (ks : List (List ℕ)) (u : List ℕ) (i : ℕ) → All (Ahead k) ks → Seat ks u i → Ahead k u
+seat_ahead : (k : List ℕ) (ks : List (List ℕ)) (u : List ℕ) (i : ℕ) → AllByRecursion (Ahead k) ks → Seat ks u i → Ahead k u
 seat_ahead k [] u i a s = absurd s
 seat_ahead k (x ∷ ks) u zero a s = subst (λ (v : List ℕ). Ahead k v) s a.0
 seat_ahead k (x ∷ ks) u (suc i) a s = seat_ahead k ks u i a.1 s

@@ -1,7 +1,7 @@
 -- Keys in order: what the tests say of them, and where one stands or would stand among them.
 use Rattle.std.specs.Prelude.{◌≡◌, ℕ, zero, suc, ◌<◌, ◌≤◌, true, false, ◌⊎◌, List, [], ◌∷◌, map, length, Ok, Err, Result, MatchResult, ◌≢◌, slice_index_or}
 use Rattle.std.proofs.Common.{sym, subst, ap, inl, inr, ⊎_elim, arith}
-use Rattle.std.specs.List.{AllByRecursion as All}
+use Rattle.std.specs.List.{AllByRecursion}
 use Rattle.std.specs.Str.{bytes_eq}
 use Rattle.std.proofs.lemmas.Slice.Eq.{bytes_eq-Decides}
 use Rattle.std.proofs.lemmas.Bool.{cases_Bool, both_ways}
@@ -67,7 +67,7 @@ module _ {R : Type 0} (key : R → List ℕ) where
   ordered_keys [] h = tt
   ordered_keys (x ∷ xs) h = (all_keys xs h.0, ordered_keys xs h.1)
     where
-      all_keys : (ys : List R) → All (λ b. Ahead (key x) (key b)) ys → All (Ahead (key x)) (map key ys)
+      all_keys : (ys : List R) → AllByRecursion (λ b. Ahead (key x) (key b)) ys → AllByRecursion (Ahead (key x)) (map key ys)
       all_keys [] a = tt
       all_keys (y ∷ ys) a = (a.0, all_keys ys a.1)
 
@@ -75,16 +75,16 @@ module _ {R : Type 0} (key : R → List ℕ) where
   keys_ordered [] h = tt
   keys_ordered (x ∷ xs) h = (keys_all xs h.0, keys_ordered xs h.1)
     where
-      keys_all : (ys : List R) → All (Ahead (key x)) (map key ys) → All (λ b. Ahead (key x) (key b)) ys
+      keys_all : (ys : List R) → AllByRecursion (Ahead (key x)) (map key ys) → AllByRecursion (λ b. Ahead (key x) (key b)) ys
       keys_all [] a = tt
       keys_all (y ∷ ys) a = (a.0, keys_all ys a.1)
 
-  all_at : (u : List ℕ) (xs : List R) (j : ℕ) (d : R) → j < length xs → All (Ahead u) (map key xs) → Ahead u (key (slice_index_or xs j d))
+  all_at : (u : List ℕ) (xs : List R) (j : ℕ) (d : R) → j < length xs → AllByRecursion (Ahead u) (map key xs) → Ahead u (key (slice_index_or xs j d))
   all_at u [] j d l a = absurd (omega arith)
   all_at u (x ∷ xs) zero d l a = a.0
   all_at u (x ∷ xs) (suc j) d l a = all_at u xs j d (omega arith) a.1
 
-  all_of : (u : List ℕ) (xs : List R) → ((j : ℕ) (d : R) → j < length xs → Ahead u (key (slice_index_or xs j d))) → All (Ahead u) (map key xs)
+  all_of : (u : List ℕ) (xs : List R) → ((j : ℕ) (d : R) → j < length xs → Ahead u (key (slice_index_or xs j d))) → AllByRecursion (Ahead u) (map key xs)
   all_of u [] h = tt
   all_of u (x ∷ xs) h = (h 0 x (omega arith), all_of u xs (λ j d l. h (suc j) d (omega arith)))
 

@@ -1,11 +1,11 @@
 -- What a source's first day from a number on says of its days.
 use Rattle.std.proofs.Common.{◌≡◌, ℕ, ◌<◌, ◌≤◌, List, [], ◌∷◌, Some, None, Option, sym, refl, subst, inl, inr, ⊎_elim, arith}
-use Rattle.std.specs.List.{AllByRecursion as All}
+use Rattle.std.specs.List.{AllByRecursion}
 use Rattle.std.proofs.lemmas.Bool.{cases_lt, le-leb, lt-leb}
 use Rattle.source.specs.Days.{Ascending, first_from}
 use Rattle.series.specs.Members.{Mem}
 
-pub all_mem : {X : Type 0} (P : X → Type 0) (xs : List X) → All P xs → (x : X) → Mem x xs → P x
+pub all_mem : {X : Type 0} (P : X → Type 0) (xs : List X) → AllByRecursion P xs → (x : X) → Mem x xs → P x
 all_mem P [] a x m = absurd m
 all_mem P (y ∷ ys) a x (inl e) = subst P (sym e) a.0
 all_mem P (y ∷ ys) a x (inr m) = all_mem P ys a.1 x m

@@ -1,13 +1,13 @@
 -- The first plain day that a window reaches is its next plain occurrence.
 use Rattle.std.proofs.Common.{◌≡◌, ℕ, ◌+◌, ◌*◌, ◌<◌, ◌≤◌, None, arith}
-use Rattle.std.specs.List.{AllByRecursion as All}
+use Rattle.std.specs.List.{AllByRecursion}
 use Rattle.calendar.specs.Starts.{start_of}
 use Rattle.series.specs.Plans.{Plan}
 use Rattle.upcoming.specs.Kinds.{Plain, FirstPlain, PlainFrom}
 use Rattle.upcoming.specs.Least.{rank, Least, NoneIn}
 use Rattle.upcoming.proofs.Finds.{all_mem}
 
-module _ (p : Plan) (bounded : All (λ d. d ≤ 109572) p.days) (clock s d first : ℕ) (is : clock ≡ p.clock)
+module _ (p : Plan) (bounded : AllByRecursion (λ d. d ≤ 109572) p.days) (clock s d first : ℕ) (is : clock ≡ p.clock)
     (before : (x : ℕ) → x < 4294967296 → rank s d ≤ rank (x * 1440 + clock) x → first ≤ x) where
   reaches : (z w : ℕ) → Plain p z w → rank s d ≤ rank z w → first ≤ w
   reaches z w h r =
