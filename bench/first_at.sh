@@ -2,10 +2,10 @@
 # Counts the instructions that the program spends for each line of an agenda, by valgrind's callgrind: for a
 # rule at its start, in its middle and near 2199, with and without COUNT. A line costs one question of the rule
 # and one line of text; what the program spends without any line is taken off.
-# Run after `rt check agenda`, from any folder.
+# Run after `rt run` in crates/agenda, from any folder.
 set -eu
 cd "$(dirname "$0")/.."
-program=target/bin/agenda
+program=crates/agenda/out/agenda
 count() { # the instructions of one run
     valgrind --tool=callgrind --callgrind-out-file=/dev/null "$program" "$@" 2>&1 >/tmp/first_at.lines |
         sed -n 's/.*Collected : //p'
