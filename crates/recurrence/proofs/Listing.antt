@@ -5,15 +5,17 @@ use Rattle.std.proofs.lemmas.Bool.{cases_lt}
 use Rattle.recurrence.specs.Entries.{all}
 
 module _ {X : Type 0} (f : X → Bool) (xs : List X) (i : ℕ) where
+  pub all_stops : (d : X) → i < length xs → f (get_or xs i d) ≡ false → all f (drop i xs) ≡ false
+  all_stops d h t = at_drop_more (all f) xs i d h ∙ ap (λ b. b && all f (drop (i + 1) xs)) t
+
+  pub all_goes : (d : X) → i < length xs → f (get_or xs i d) ≡ true → all f (drop i xs) ≡ all f (drop (i + 1) xs)
+  all_goes d h t = at_drop_more (all f) xs i d h ∙ ap (λ b. b && all f (drop (i + 1) xs)) t
+
   pub all_here : (x : X) → i < length xs → x ≡ get_or xs i x → f x ≡ false → all f (drop i xs) ≡ false
-  all_here x h e t =
-      let u : f (get_or xs i x) ≡ false = sym (ap f e) ∙ t in
-      at_drop_more (all f) xs i x h ∙ ap (λ b. b && all f (drop (i + 1) xs)) u
+  all_here x h e t = all_stops x h (sym (ap f e) ∙ t)
 
   pub all_next : (x : X) → i < length xs → x ≡ get_or xs i x → f x ≡ true → all f (drop i xs) ≡ all f (drop (i + 1) xs)
-  all_next x h e t =
-      let u : f (get_or xs i x) ≡ true = sym (ap f e) ∙ t in
-      at_drop_more (all f) xs i x h ∙ ap (λ b. b && all f (drop (i + 1) xs)) u
+  all_next x h e t = all_goes x h (sym (ap f e) ∙ t)
 
   pub all_end : length xs ≤ i → all f (drop i xs) ≡ true
   all_end h = at_drop_all (all f) xs i h
