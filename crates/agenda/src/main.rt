@@ -3,6 +3,7 @@
 
 use arguments::jobs::read;
 use arguments::prints::print;
+use page::pages::Page;
 use rule_text::reading::bad_field;
 use std::alloc::AllocError;
 use std::env::FillError;
@@ -23,6 +24,7 @@ const PAGE_OCTETS: usize = 15_888_200;
 fn words(rt: &HostRuntime) -> Result<Vec<Vec<u8>>, AllocError> {
     let heap = rt.alloc();
     let mut all = Vec::new(heap);
+    // arguments are asked for by their numbers
     for i in 1..=WORDS {
         let mut word = vec![in heap; 0u8; WORD_OCTETS]?;
         match rt.arg(i, word.as_mut_slice()) {
@@ -38,41 +40,44 @@ fn words(rt: &HostRuntime) -> Result<Vec<Vec<u8>>, AllocError> {
 
 // Says which field of a rule is no part of one, if there is such a field.
 fn name_part(rt: &HostRuntime, rule: &[u8]) -> anyhow::Result<()> {
-    let Some(field) = bad_field(rule) else {
-        return Ok(());
-    };
-    rt.stderr().write_all(b"agenda: the part is ")?;
-    rt.stderr().write_all(field)?;
-    rt.stderr().write_all(b"\n")?;
+    if let Some(field) = bad_field(rule) {
+        rt.stderr().write_all(b"agenda: the part is ")?;
+        rt.stderr().write_all(field)?;
+        rt.stderr().write_all(b"\n")?;
+    }
     Ok(())
 }
 
 fn run(rt: &HostRuntime) -> anyhow::Result<ExitCode> {
     let heap = rt.alloc();
     let all = words(rt)?;
-    let mut octets: Vec<&[u8]> = Vec::new(heap);
-    for word in &all {
-        octets.push(word.as_slice())?;
-    }
-    let command = match read(octets.as_slice()) {
+    let words = all
+        .iter()
+        .map(|word| word.as_slice())
+        .collect::<Vec<&[u8]>>(heap)?;
+    let command = match read(words.as_slice()) {
         Ok(command) => command,
         Err(fault) => {
             eprintln!(rt; "agenda: {fault}")?;
-            if octets.len() == WORDS - 1 {
-                name_part(rt, octets[2])?;
+            if let [_, _, rule, _, _, _, _] = *words.as_slice() {
+                name_part(rt, rule)?;
             }
             return Ok(ExitCode::FAILURE);
         }
     };
-    let mut page = vec![in heap; 0u8; PAGE_OCTETS]?;
-    let mut len = 0;
-    match print(&command, page.as_mut_slice(), &mut len) {
+    let mut octets = vec![in heap; 0u8; PAGE_OCTETS]?;
+    let mut page = Page {
+        octets: octets.as_mut_slice(),
+        len: 0,
+    };
+    match print(&command, &mut page) {
         Ok(_) => {
-            rt.stdout().write_all(&page[0..len])?;
+            let Page { octets, len } = page;
+            rt.stdout().write_all(&octets[..len])?;
             Ok(ExitCode::SUCCESS)
         }
-        Err(_) => {
-            eprintln!(rt; "agenda: the page is full")?;
+        Err(refusal) => {
+            eprintln!(rt; "agenda: {refusal}")?;
             Ok(ExitCode::FAILURE)
         }
     }

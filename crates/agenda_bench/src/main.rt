@@ -3,12 +3,14 @@
 
 use anyhow::anyhow;
 use calendar::starts::Moment;
+use calendar::windows::Window;
 use dates::dates::DateList;
 use dates::unions::Union;
 use diary::diaries::Diary;
 use diary::entries::Entry;
 use notation::dates::read_day;
 use notation::digits::number_of;
+use page::pages::Page;
 use refusal::Refusal;
 use rule::rules::Rule;
 use rule_text::reading::read_rule;
@@ -23,45 +25,28 @@ use undo::logs::UndoLog;
 // Room for the longest page that is asked for.
 const PAGE_OCTETS: usize = 4 * 1024 * 1024;
 
-// The number that an argument is, or 0.
-fn argument(rt: &HostRuntime, place: usize) -> u32 {
-    let mut word = [0u8; 8];
-    match rt.arg(place, &mut word) {
-        Ok(len) if len <= 8 => match number_of(&word[0..len]) {
-            Ok(number) => number,
-            Err(_) => 0,
-        },
-        _ => 0,
-    }
-}
+// The minutes of 2024.
+const YEAR_2024: Window = Window {
+    from: 45_290 * 1440,
+    end: 45_656 * 1440,
+};
 
-// The UID s000 to s999.
-fn uid_of(number: u32) -> [u8; 4] {
-    let n = number % 1000;
-    [
-        b's',
-        b'0' + (n / 100) as u8,
-        b'0' + (n / 10 % 10) as u8,
-        b'0' + (n % 10) as u8,
-    ]
+// The number that an argument is.
+fn argument(rt: &HostRuntime, place: usize) -> Option<u32> {
+    let mut word = [0; 8];
+    let len = rt.arg(place, &mut word).ok()?;
+    number_of(word.get(..len)?).ok()
 }
 
 // A weekly series from a day of a year's first week on, at a clock of its own; its occurrence of a week in 2024 is moved by a day.
-fn series_of(number: u32, year: u32) -> Result<(Union<Rule>, u32, Overrides), Refusal> {
-    let mut date = *b"00000101";
-    date[0] = b'0' + (year / 1000 % 10) as u8;
-    date[1] = b'0' + (year / 100 % 10) as u8;
-    date[2] = b'0' + (year / 10 % 10) as u8;
-    date[3] = b'0' + (year % 10) as u8;
-    let first = read_day(&date)?.saturating_add(number % 7);
+fn weekly(first: u32, number: u32) -> Result<Entry<'static, Union<Rule>>, Refusal> {
     let clock = 480 + number % 24 * 30;
     let start = Moment {
-        day: first,
-        clock: (clock % 1440) as u16,
+        day: first.saturating_add(number % 7),
+        clock: clock as u16,
     };
     let rule = read_rule(b"FREQ=WEEKLY", start)?;
-    let week = read_day(b"20240610")?;
-    let moved = match rule_day(&rule, week) {
+    let overrides = match rule.first_at(read_day(b"20240610")?) {
         Some(day) => Overrides::new(&[Override {
             day,
             change: Change::Altered(Alteration {
@@ -74,48 +59,46 @@ fn series_of(number: u32, year: u32) -> Result<(Union<Rule>, u32, Overrides), Re
         }])?,
         None => Overrides::none(),
     };
-    Ok((Union::new(rule, DateList::new(&[])?), clock, moved))
-}
-
-fn rule_day(rule: &Rule, day: u32) -> Option<u32> {
-    rule.first_at(day)
+    Ok(Entry {
+        source: Union::new(rule, DateList::new(&[])?),
+        clock,
+        duration: 60,
+        text: b"Service",
+        stamp: b"20240101T120000Z",
+        overrides,
+    })
 }
 
 fn main(rt: HostRuntime) -> anyhow::Result<()> {
     let heap = rt.alloc();
-    let count = argument(&rt, 1).min(1000);
-    let year = argument(&rt, 2);
-    let times = argument(&rt, 3);
+    let count = argument(&rt, 1).unwrap_or(0).min(1000);
+    let year = argument(&rt, 2).unwrap_or(0) % 10_000;
+    let times = argument(&rt, 3).unwrap_or(0);
     let table: Table<Union<Rule>> = Table::new(heap, count as usize)?;
     let mut diary = Diary::new(heap, table)?;
     let mut log = UndoLog::new(heap, 16)?;
     let mut entered = 0u32;
+    let date = format!(in heap; "{year:04}0101")?;
     for number in 0..count {
-        let Ok((source, clock, overrides)) = series_of(number, year) else {
-            return Err(anyhow!("a series cannot be made"));
-        };
-        let entry = Entry {
-            source,
-            clock,
-            duration: 60,
-            text: b"Service",
-            stamp: b"20240101T120000Z",
-            overrides,
-        };
-        let uid = uid_of(number);
-        if let Ok(()) = diary.enter(&mut log, &uid, &entry) {
+        let entry = read_day(date.as_bytes())
+            .and_then(|first| weekly(first, number))
+            .map_err(|_| anyhow!("a series cannot be made"))?;
+        let uid = format!(in heap; "s{number:03}")?;
+        if diary.enter(&mut log, uid.as_bytes(), &entry).is_ok() {
             entered = entered.saturating_add(1);
         }
     }
-    let mut page = vec![in heap; 0u8; PAGE_OCTETS]?;
+    let mut octets = vec![in heap; 0; PAGE_OCTETS]?;
+    let mut page = Page {
+        octets: octets.as_mut_slice(),
+        len: 0,
+    };
     let mut lines = 0;
     for _ in 0..times {
-        let mut len = 0;
-        // the minutes of 2024
-        match diary.agenda(45_290 * 1440, 45_656 * 1440, page.as_mut_slice(), &mut len) {
-            Ok(printed) => lines = printed,
-            Err(_) => return Err(anyhow!("the page is refused")),
-        }
+        page.len = 0;
+        lines = diary
+            .agenda(YEAR_2024, &mut page)
+            .map_err(|_| anyhow!("the page is refused"))?;
     }
     println!(rt; "{entered} series, {lines} lines")?;
     Ok(())

@@ -14,6 +14,7 @@ use Rattle.arguments.specs.declared.faults.Argument.{Argument}
 use Rattle.arguments.specs.declared.faults.Argument.TheVariants.{Uid, Interval, Start, Rule, Duration, Text, First, Last}
 use Rattle.arguments.specs.declared.faults.Fault.{Fault}
 use Rattle.arguments.specs.declared.faults.Fault.TheVariants.{Missing, Surplus, Refused}
+use Rattle.arguments.specs.declared.timed.Shared.{Shared}
 
 pub data Told : Type 0 where
   missing : Argument → Told
@@ -25,6 +26,11 @@ abbrev pub told : Fault → Told
 told (Missing a) = missing a
 told Surplus = surplus
 told (Refused a e) = refused a (number_of e)
+
+-- what a result says, if it is a fault
+abbrev pub told_of : {X : Type 0} → Result X Fault → Option Told
+told_of (Ok x) = None
+told_of (Err f) = Some (told f)
 
 -- the number of words: six, or seven with a start and a rule
 abbrev pub count_fault : ℕ → Option Told
@@ -92,6 +98,10 @@ abbrev pub rule_at : Result Moment Refusal → List ℕ → Option Told
 rule_at (Ok m) xs = rule_fault m xs
 rule_at (Err e) xs = None
 
+-- first the start's word, then the rule's
+abbrev pub recurring_fault : List ℕ → List ℕ → Option Told
+recurring_fault start rule = first_of (start_fault start) (rule_at (moment_named start) rule)
+
 -- both days, and their order
 abbrev pub days_fault : List ℕ → List ℕ → Option Told
 days_fault first last = first_of (day_fault First first) (first_of (day_fault Last last) (window_fault first last))
@@ -105,7 +115,11 @@ six_fault uid interval duration text first last = first_of (uid_fault uid) (firs
 
 abbrev pub seven_fault : List ℕ → List ℕ → List ℕ → List ℕ → List ℕ → List ℕ → List ℕ → Option Told
 seven_fault uid start rule duration text first last =
-    first_of (uid_fault uid) (first_of (start_fault start) (first_of (rule_at (moment_named start) rule) (rest_fault duration text first last)))
+    first_of (uid_fault uid) (first_of (recurring_fault start rule) (rest_fault duration text first last))
+
+-- the same where the words of the days say so much
+abbrev pub job_fault : Shared → Option Told → Option Told
+job_fault w timed = first_of (uid_fault w.uid.now) (first_of timed (rest_fault w.duration.now w.text.now w.first.now w.last.now))
 
 -- the words of a command line by their places; past the last there is an empty one
 abbrev pub word_at : List (Bor (List ℕ)) → ℕ → List ℕ

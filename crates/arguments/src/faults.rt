@@ -25,9 +25,9 @@ pub enum Fault {
     Refused(Argument, Refusal),
 }
 
-impl Argument {
-    fn name(self) -> &'static str {
-        match self {
+impl fmt::Display for Argument {
+    fn fmt<W: fmt::Write>(&self, f: &mut fmt::Formatter<W>) -> fmt::Result {
+        f.write_str(match *self {
             Argument::Uid => "UID",
             Argument::Interval => "interval",
             Argument::Start => "start",
@@ -36,9 +36,11 @@ impl Argument {
             Argument::Text => "text",
             Argument::First => "first day",
             Argument::Last => "last day",
-        }
+        })
     }
+}
 
+impl Argument {
     fn bounds(self) -> &'static str {
         match self {
             Argument::Uid => {
@@ -63,6 +65,7 @@ impl Argument {
     }
 }
 
+// The argument is the subject, so that a refusal's own sentence does not fit.
 fn reason(refusal: Refusal) -> &'static str {
     match refusal {
         Refusal::Malformed => "is malformed",
@@ -81,19 +84,17 @@ impl fmt::Display for Fault {
     fn fmt<W: fmt::Write>(&self, f: &mut fmt::Formatter<W>) -> fmt::Result {
         match *self {
             Fault::Missing(argument) => {
-                let name = argument.name();
                 let bounds = argument.bounds();
-                write!(f, "the {name} is missing: {bounds}")
+                write!(f, "the {argument} is missing: {bounds}")
             }
             Fault::Surplus => write!(
                 f,
                 "too many arguments: UID, interval (or start and rule), duration, text, first day, last day; a text with spaces stands in quotes"
             ),
             Fault::Refused(argument, refusal) => {
-                let name = argument.name();
                 let reason = reason(refusal);
                 let bounds = argument.bounds();
-                write!(f, "the {name} {reason}: {bounds}")
+                write!(f, "the {argument} {reason}: {bounds}")
             }
         }
     }

@@ -1,67 +1,27 @@
 // Reading the arguments into a job.
-ghost use Rattle.std.specs.Prelude.{◌≡◌, ℕ, ◌+◌, ◌<◌, ◌≤◌, length, Some, None, MatchResult};
-ghost use Rattle.arguments.specs.Faults.{told, fault_of, six_fault, seven_fault};
-ghost use Rattle.arguments.specs.Jobs.{ReadsInterval, ReadsRecurring, ReadsAll};
+ghost use Rattle.std.specs.Prelude.{◌≡◌, ◌<◌, ◌⊎◌, Some, None, Ok, IfOk, MatchResult};
+ghost use Rattle.arguments.specs.Faults.{told, told_of, count_fault, job_fault, fault_of};
+ghost use Rattle.arguments.specs.Jobs.{HasShared, ReadsAll, timed_of};
 
 use crate::faults::{Argument, Fault};
 use crate::job::{Command, Job};
-use crate::words::{
-    check_count, read_duration, read_recurring, read_start, read_text, read_timing, read_uid,
-    read_window,
-};
-use rule::rules::Rule;
-use series::clocks::Clock;
+use crate::timed::{Shared, Timed};
+use crate::words::{read_days, read_duration, read_interval, read_label, read_recurring};
+use event::events::Event;
 use series::records::Series;
-use source::intervals::Interval;
 
-// The job of six words: the first that is refused decides.
-fn read_six(
-    uid: &[u8],
-    interval: &[u8],
-    duration: &[u8],
-    text: &[u8],
-    first: &[u8],
-    last: &[u8],
-) -> Result<Job<Interval>, Fault>
-    ensures { MatchResult result (λ j. (six_fault uid.now interval.now duration.now text.now first.now last.now ≡ None) × ReadsInterval uid.now interval.now duration.now text.now first.now last.now j) (λ f. six_fault uid.now interval.now duration.now text.now first.now last.now ≡ Some (told f)) }
+// The job of the words, where those of the days were read already: the first that is refused decides.
+fn read_job<S: Copy>(words: &Shared<'_>, timed: Result<Timed<S>, Fault>) -> Result<Job<S>, Fault>
+    ensures fault { told_of result ≡ job_fault words.now (told_of timed) }
+    ensures value { IfOk result (λ j. HasShared words.now j × (timed ≡ Ok (timed_of j))) }
 {
-    let uid = read_uid(uid)?;
-    let timed = read_timing(interval)?;
-    let duration = read_duration(duration)?;
-    let text = read_text(text)?;
-    let window = read_window(first, last)?;
+    let uid = read_label(words.uid, Argument::Uid)?;
+    let Timed { source, clock } = timed?;
+    let duration = read_duration(words.duration)?;
+    let text = read_label(words.text, Argument::Text)?;
+    let days = read_days(words.first, words.last)?;
     Ok(Job {
-        uid,
-        series: Series {
-            source: timed.interval,
-            clock: timed.clock,
-            duration,
-            text,
-        },
-        window,
-    })
-}
-
-// The job of seven words, a start and a rule in the place of the interval.
-fn read_seven(
-    uid: &[u8],
-    start: &[u8],
-    rule: &[u8],
-    duration: &[u8],
-    text: &[u8],
-    first: &[u8],
-    last: &[u8],
-) -> Result<Job<Rule>, Fault>
-    ensures { MatchResult result (λ j. (seven_fault uid.now start.now rule.now duration.now text.now first.now last.now ≡ None) × ReadsRecurring uid.now start.now rule.now duration.now text.now first.now last.now j) (λ f. seven_fault uid.now start.now rule.now duration.now text.now first.now last.now ≡ Some (told f)) }
-{
-    let uid = read_uid(uid)?;
-    let start = read_start(start)?;
-    let source = read_recurring(rule, start)?;
-    let duration = read_duration(duration)?;
-    let text = read_text(text)?;
-    let window = read_window(first, last)?;
-    match Clock::new(start.clock as u32) {
-        Ok(clock) => Ok(Job {
+        event: Event {
             uid,
             series: Series {
                 source,
@@ -69,23 +29,58 @@ fn read_seven(
                 duration,
                 text,
             },
-            window,
-        }),
-        Err(refusal) => Err(Fault::Refused(Argument::Start, refusal)),
-    }
+        },
+        days,
+    })
 }
 
-// The job of the words of a command line.
+// The arguments of the form with an interval, in their order.
+const ORDER: [Argument; 6] = [
+    Argument::Uid,
+    Argument::Interval,
+    Argument::Duration,
+    Argument::Text,
+    Argument::First,
+    Argument::Last,
+];
+
+// What is wrong with so many words.
+fn miscounted(count: usize) -> Fault
+    requires { count < 6 ⊎ 7 < count }
+    ensures { count_fault count ≡ Some (told result) }
+{
+    ORDER
+        .get(count)
+        .map_or(Fault::Surplus, |argument| Fault::Missing(*argument))
+}
+
+// The job of the words of a command line: with an interval, or with a start and a rule in its place.
 pub fn read(words: &[&[u8]]) -> Result<Command, Fault>
     ensures { MatchResult result (λ j. (fault_of words.now ≡ None) × ReadsAll words.now j) (λ f. fault_of words.now ≡ Some (told f)) }
 {
-    check_count(words.len())?;
-    if words.len() <= 6 {
-        let job = read_six(words[0], words[1], words[2], words[3], words[4], words[5])?;
-        return Ok(Command::ByInterval(job));
+    match *words {
+        [uid, interval, duration, text, first, last] => {
+            let shared = Shared {
+                uid,
+                duration,
+                text,
+                first,
+                last,
+            };
+            let job = read_job(&shared, read_interval(interval))?;
+            Ok(Command::ByInterval(job))
+        }
+        [uid, start, rule, duration, text, first, last] => {
+            let shared = Shared {
+                uid,
+                duration,
+                text,
+                first,
+                last,
+            };
+            let job = read_job(&shared, read_recurring(start, rule))?;
+            Ok(Command::ByRule(job))
+        }
+        _ => Err(miscounted(words.len())),
     }
-    let job = read_seven(
-        words[0], words[1], words[2], words[3], words[4], words[5], words[6],
-    )?;
-    Ok(Command::ByRule(job))
 }

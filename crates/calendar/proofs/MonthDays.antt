@@ -1,8 +1,8 @@
 -- Months and their days.
-use Rattle.std.proofs.Common.{◌≡◌, ℕ, zero, suc, ◌+◌, ◌-◌, ◌<◌, ◌≤◌, Bool, true, false, cond, refl, subst, ⊎_elim, arith}
+use Rattle.std.proofs.Common.{◌≡◌, ℕ, zero, suc, ◌+◌, ◌-◌, ◌<◌, ◌≤◌, Bool, true, false, cond, Some, None, refl, subst, ⊎_elim, arith}
 use Rattle.std.proofs.lemmas.Bool.Decides.{nat_tests}
 use Rattle.std.proofs.lemmas.Bool.{cases_lt, le-leb, lt-leb}
-use Rattle.calendar.specs.Months.{month_length, before, begun}
+use Rattle.calendar.specs.Months.{is_month, month_length, before, begun}
 
 pub month_long : (leap : Bool) (m : ℕ) → (28 ≤ month_length leap m) × (month_length leap m ≤ 31)
 unfolding month_length
@@ -39,11 +39,6 @@ along leap j (suc k) =
 pub before_rise : (leap : Bool) (j k : ℕ) → j ≤ k → before leap j ≤ before leap k
 before_rise leap j k l = let e : j + (k - j) ≡ k = omega arith in rw e at (along leap j (k - j))
 
--- only months of the year have so few days before them
-pub before_few : (leap : Bool) (k : ℕ) → before leap k ≤ 341 → k < 12
-before_few true k h = ⊎_elim (λ l. l) (λ l. absurd (omega (arith, before_rise true 12 k l, before_all true))) (cases_lt k 12)
-before_few false k h = ⊎_elim (λ l. l) (λ l. absurd (omega (arith, before_rise false 12 k l, before_all false))) (cases_lt k 12)
-
 -- the day n of a year lies in the month m
 pub record InMonth (leap : Bool) (n m : ℕ) : Type 0 where
   pub low : 1 ≤ m
@@ -79,3 +74,10 @@ one_month leap n j k a b =
     (λ g.
     ⊎_elim (λ l. absurd (omega (arith, before_rise leap k (j - 1) (omega arith), b.ends, a.begins))) (λ w. omega arith) (cases_lt k j))
     (cases_lt j k)
+
+-- a month has a length just where there is one
+pub length_some : (leap : Bool) (m n : ℕ) → cond (is_month m) (Some (month_length leap m)) None ≡ Some n → (1 ≤ m) × (m ≤ 12) × (n ≡ month_length leap m)
+length_some leap m n e = grind (arith, nat_tests)
+
+pub length_none : (leap : Bool) (m : ℕ) → cond (is_month m) (Some (month_length leap m)) None ≡ None → 1 ≤ m → m ≤ 12 → ⊥
+length_none leap m e l h = grind (arith, nat_tests)

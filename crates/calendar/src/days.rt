@@ -5,7 +5,7 @@ ghost use Rattle.calendar.specs.Years.{last_day};
 ghost use Rattle.calendar.specs.Laws.{Inverse, Follows, OneDay};
 
 use crate::date::Date;
-use crate::months::{days_before, length_in, month_day};
+use crate::months::{days_of, length_of, month_day};
 use crate::years::{is_leap, year_of, year_start};
 
 pub const LAST_DAY: u32 = 109_572;
@@ -36,12 +36,11 @@ pub fn day_of(date: Date) -> Option<u32>
     ensures inverse { Inverse }
     ensures one { OneDay }
 {
-    if date.year < 1900 || date.year > 2199 || date.month < 1 || date.month > 12 || date.day < 1 {
-        return None;
-    }
     let leap = is_leap(date.year);
-    if date.day > length_in(leap, date.month) {
+    let length = length_of(leap, date.month)?;
+    if date.year < 1900 || date.year > 2199 || date.day < 1 || date.day > length {
         return None;
     }
-    Some(year_start(date.year) + days_before(leap, date.month) as u32 + (date.day - 1) as u32)
+    let months = days_of(leap, date.month - 1);
+    Some(year_start(date.year) + months as u32 + (date.day - 1) as u32)
 }

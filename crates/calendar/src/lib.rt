@@ -6,4 +6,5 @@ pub mod days;
 pub mod months;
 pub mod starts;
 pub mod weekdays;
+pub mod windows;
 pub mod years;

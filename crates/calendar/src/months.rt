@@ -1,7 +1,7 @@
 // Month lengths, and the months of a year by its days.
-ghost use Rattle.std.specs.Prelude.{◌≡◌, ℕ, ◌+◌, ◌-◌, ◌<◌, ◌≤◌, if◌then◌else◌};
+ghost use Rattle.std.specs.Prelude.{◌≡◌, ℕ, ◌+◌, ◌-◌, ◌<◌, ◌≤◌, length, sum, Some, None, if◌then◌else◌};
 ghost use Rattle.calendar.specs.Years.{year_length};
-ghost use Rattle.calendar.specs.Months.{month_length, length_at, before, begun};
+ghost use Rattle.calendar.specs.Months.{is_month, month_length, length_at, before, begun};
 
 use crate::years::is_leap;
 
@@ -23,26 +23,33 @@ pub(crate) fn length_in(leap: bool, month: u8) -> u8
 pub fn month_length(year: u16, month: u8) -> Option<u8>
     ensures { result ≡ length_at year month }
 {
-    if month < 1 || month > 12 {
-        return None;
-    }
-    Some(length_in(is_leap(year), month))
+    length_of(is_leap(year), month)
 }
 
-// The days of a year before a month.
-pub(crate) fn days_before(leap: bool, month: u8) -> u16
-    requires { (1 ≤ month) × (month ≤ 12) }
-    ensures value { result ≡ before leap (month - 1) }
-    ensures bound { result ≤ 341 }
+// The same, by whether the year is a leap year.
+pub(crate) fn length_of(leap: bool, month: u8) -> Option<u8>
+    ensures { result ≡ (if is_month month then Some (month_length leap month) else None) }
 {
-    let mut sum: u16 = 0;
-    for m in 1..month {
-        sum += length_in(leap, m) as u16;
-    }
-    sum
+    (1 <= month && month <= 12).then(|| length_in(leap, month))
 }
 
-// A month, and a day of it counted from 1.
+// The sum of a part of a row: over a slice, so that the rows are not written out in what is proved of it.
+fn total(lengths: &[u8]) -> u16
+    requires { length lengths.now ≤ 12 }
+    ensures { result ≡ sum lengths.now }
+{
+    lengths.iter().map(|days| *days as u16).sum()
+}
+
+// The days of a year's first months.
+pub(crate) fn days_of(leap: bool, months: u8) -> u16
+    requires { months ≤ 12 }
+    ensures { result ≡ before leap months }
+{
+    total(&MONTHS[leap as usize][..months as usize])
+}
+
+// A month, and a day of it counted from 1: a date whose year is known elsewhere.
 #[derive(Clone, Copy)]
 pub(crate) struct MonthDay {
     pub(crate) month: u8,
@@ -57,14 +64,20 @@ pub(crate) fn month_day(leap: bool, n: u16) -> MonthDay
     ensures range { (1 ≤ result.month) × (result.month ≤ 12) }
     ensures within { (1 ≤ result.day) × (result.day ≤ month_length leap result.month) }
 {
-    let mut month: u8 = 1;
+    // months are taken off one by one, and the walk ends within a month: no chain stops with both numbers
     let mut left = n;
-    while month < 12 && left >= length_in(leap, month) as u16 {
-        left -= length_in(leap, month) as u16;
-        month += 1;
+    for month in 1..12 {
+        let length = length_in(leap, month) as u16;
+        if left < length {
+            return MonthDay {
+                month,
+                day: (left + 1) as u8,
+            };
+        }
+        left -= length;
     }
     MonthDay {
-        month,
+        month: 12,
         day: (left + 1) as u8,
     }
 }

@@ -21,10 +21,8 @@ pub fn start_of(moment: Moment) -> Option<u32>
     ensures value { result ≡ start_at moment }
     ensures parts { Parts }
 {
-    if moment.day > LAST_DAY || moment.clock as u32 >= DAY_MINUTES {
-        return None;
-    }
-    Some(moment.day * DAY_MINUTES + moment.clock as u32)
+    let clock = moment.clock as u32;
+    (moment.day <= LAST_DAY && clock < DAY_MINUTES).then(|| moment.day * DAY_MINUTES + clock)
 }
 
 // The parts of a start, or none past the last start.
@@ -33,11 +31,6 @@ pub fn moment_of(start: u32) -> Option<Moment>
     ensures parts { Parts }
 {
     let day = start / DAY_MINUTES;
-    if day > LAST_DAY {
-        return None;
-    }
-    Some(Moment {
-        day,
-        clock: (start % DAY_MINUTES) as u16,
-    })
+    let clock = (start % DAY_MINUTES) as u16;
+    (day <= LAST_DAY).then_some(Moment { day, clock })
 }

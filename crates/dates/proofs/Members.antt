@@ -4,9 +4,12 @@ use Rattle.std.specs.List.{AllByRecursion}
 use Rattle.std.proofs.ByRecursion.{All-weaker}
 use Rattle.std.proofs.lemmas.Bool.{both_ways, cases_order, eq-eqb, ne_eqb}
 use Rattle.std.proofs.lemmas.Bool.Decides.{eqb_tells}
-use Rattle.source.specs.Days.{Ascending, among}
-use Rattle.dates.specs.Unions.{slot, merged, Joined}
-use Rattle.dates.specs.Merges.{slot_after, slot_at, slot_first, merged_ascends}
+use Rattle.source.specs.Days.{Ascending, among, before, since, first_from}
+use Rattle.dates.specs.declared.dates.DateList.{DateList}
+use Rattle.dates.specs.Climbing.{climbs_ascend}
+use Rattle.dates.specs.Dates.{date_days}
+use Rattle.dates.specs.Unions.{slot, merged, sooner, BothSides}
+use Rattle.dates.specs.Merges.{slot_after, slot_at, slot_first, merged_ascends, both_sides}
 
 none_among : (d : ℕ) (xs : List ℕ) → AllByRecursion (λ y. d < y) xs → among d xs ≡ false
 none_among d [] a = refl
@@ -64,13 +67,24 @@ among_slot d y (x ∷ xs) =
     (λ (g : y < x). ap (among d) (slot_first y x xs g)))
     (cases_order x y)
 
-among_merged : (d : ℕ) (xs ys : List ℕ) → among d (merged xs ys) ≡ (among d xs || among d ys)
+pub among_merged : (d : ℕ) (xs ys : List ℕ) → among d (merged xs ys) ≡ (among d xs || among d ys)
 among_merged d xs [] = or_none (among d xs)
 among_merged d xs (y ∷ ys) =
     among_slot d y (merged xs ys) ∙ ap (λ b. eqb d y || b) (among_merged d xs ys) ∙ or_swap (eqb d y) (among d xs) (among d ys)
 
-pub joined : (xs ys : List ℕ) → Ascending xs → Joined xs ys (merged xs ys)
-joined xs ys a = record {
-  days = λ d. among_merged d xs ys;
-  alone = λ zs b h. same_days zs (merged xs ys) b (merged_ascends xs ys a) (λ d. h d ∙ sym (among_merged d xs ys));
-}
+pub joined_alone : (xs ys : List ℕ) → Ascending xs → (zs : List ℕ) → Ascending zs → ((d : ℕ) → among d zs ≡ (among d xs || among d ys)) → zs ≡ merged xs ys
+joined_alone xs ys a zs b h = same_days zs (merged xs ys) b (merged_ascends xs ys a) (λ d. h d ∙ sym (among_merged d xs ys))
+
+-- what is asked of a union is asked of both of its sides
+module _ (xs : List ℕ) (l : DateList) (a : Ascending xs) (d : ℕ) where
+  sides : BothSides xs (date_days l)
+  sides = both_sides xs (date_days l) a (climbs_ascend 0 (date_days l) l.sound)
+
+  pub union_first : first_from d (merged xs (date_days l)) ≡ sooner (first_from d xs) (first_from d (date_days l))
+  union_first = sides.first d
+
+  pub union_head : before d (merged xs (date_days l)) ≡ merged (before d xs) (before d (date_days l))
+  union_head = sides.head d
+
+  pub union_tail : since d (merged xs (date_days l)) ≡ merged (since d xs) (since d (date_days l))
+  union_tail = sides.tail d

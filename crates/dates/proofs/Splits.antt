@@ -1,7 +1,7 @@
 -- Where a number cuts an ascending list, by places.
-use Rattle.std.proofs.Common.{◌≡◌, ℕ, zero, suc, ◌<◌, ◌≤◌, List, [], ◌∷◌, length, get_or, take, drop, Some, sym, refl, ap, ◌∙◌, ⊎_elim, arith}
+use Rattle.std.proofs.Common.{◌≡◌, ℕ, zero, suc, ◌<◌, ◌≤◌, List, [], ◌∷◌, length, get_or, take, drop, sym, refl, ap, ◌∙◌, ⊎_elim, arith}
 use Rattle.std.proofs.ByRecursion.{All-get_or}
-use Rattle.std.proofs.lemmas.List.{drop_more, drop_all, get_or-take}
+use Rattle.std.proofs.lemmas.List.{drop_more, drop_all}
 use Rattle.std.proofs.lemmas.Bool.{cases_lt, lt-ltb, le-ltb, lt-leb}
 use Rattle.lookup.specs.Places.{Present, Absent}
 use Rattle.source.specs.Days.{Ascending, before, since, head_of}
@@ -55,17 +55,17 @@ drop_since [] d (suc n) a c = absurd (let h = c.within in omega arith)
 drop_since (x ∷ xs) d zero a c = sym (since_whole d (x ∷ xs) (from_first d x xs a (c.over (omega arith))))
 drop_since (x ∷ xs) d (suc n) a c = rw (lt-leb d x (c.under 0 (omega arith))) (drop_since xs d n a.1 (next c))
 
-pub split : (l : DateList) (d n : ℕ) → length (date_days l) ≡ l.len → Parted (date_days l) d n → Split l d n
-split l d n e c =
-    let a : Ascending (date_days l) = climbs_ascend 0 (date_days l) l.sound in
+pub split : (l : DateList) (d n : ℕ) → Parted (date_days l) d n → Split l d n
+split l d n c =
+    let xs = date_days l in
+    let a : Ascending xs = climbs_ascend 0 xs l.sound in
     record {
-      within = omega (arith, c.within);
+      within = c.within;
       first =
-          ap head_of (sym (drop_since (date_days l) d n a c))
-          ∙ ⊎_elim
-          (λ (k : n < l.len). rw (lt-ltb n l.len k) (ap head_of (drop_more (date_days l) n 0 (omega arith)) ∙ ap (λ x. Some x) (get_or-take l.len l.days n 0 k)))
-          (λ (k : l.len ≤ n). rw (le-ltb n l.len k) (ap head_of (drop_all n (date_days l) (omega arith))))
-          (cases_lt n l.len);
-      head = take_before (date_days l) d n a c;
-      tail = drop_since (date_days l) d n a c;
+          ap head_of (sym (drop_since xs d n a c))
+          ∙ ⊎_elim (λ (k : n < length xs). rw (lt-ltb n (length xs) k) (ap head_of (drop_more xs n 0 k)))
+          (λ (k : length xs ≤ n). rw (le-ltb n (length xs) k) (ap head_of (drop_all n xs k)))
+          (cases_lt n (length xs));
+      head = take_before xs d n a c;
+      tail = drop_since xs d n a c;
     }

@@ -1,5 +1,7 @@
 -- What is printed of a diary is printed of the history that explains it.
 use Rattle.std.proofs.Common.{ℕ, List, Ok, Err, Result, MatchResult}
+use Rattle.calendar.specs.declared.windows.Window.{Window}
+use Rattle.page.specs.declared.pages.Page.{Page}
 use Rattle.refusal.specs.declared.Refusal.{Refusal}
 use Rattle.history.specs.Explains.{Explains}
 use Rattle.history.specs.Histories.{History, agenda, fed}
@@ -9,20 +11,20 @@ use Rattle.history.proofs.Explained.{agenda_explained}
 use Rattle.merge.specs.Printed.{Printed, Refused}
 use Rattle.diary.specs.States.{printed_as}
 
-module _ (h : History) (st : State) (ex : Explains h st) (asc : Ascends st.plans) (from end : ℕ) (o p : List ℕ) (l m : ℕ) where
+module _ (h : History) (st : State) (ex : Explains h st) (asc : Ascends st.plans) (w : Window) (p q : Page) where
   pub printed_explained : (r : Result ℕ Refusal)
-      → MatchResult r (λ n. Printed (occurrences st.plans) from end n o p l m) (λ e. Refused (occurrences st.plans) from end o l m e)
-      → MatchResult r (λ n. Printed (read h.items) from end n o p l m) (λ e. Refused (read h.items) from end o l m e)
+      → MatchResult r (λ n. Printed (occurrences st.plans) w n p q) (λ e. Refused (occurrences st.plans) w p q e)
+      → MatchResult r (λ n. Printed (read h.items) w n p q) (λ e. Refused (read h.items) w p q e)
   printed_explained (Ok n) c = record {
     window = c.window;
     lines = c.lines;
-    agenda = (agenda_explained h st ex asc from end c.lines).0 c.agenda;
+    agenda = (agenda_explained h st ex asc w.from w.end c.lines).0 c.agenda;
     count = c.count;
     page = c.page;
   }
   printed_explained (Err e) c = record {
     number = c.number;
-    short = λ w k a. c.short w k ((agenda_explained h st ex asc from end k).1 a);
+    short = λ i k a. c.short i k ((agenda_explained h st ex asc w.from w.end k).1 a);
     len = c.len;
   }
 

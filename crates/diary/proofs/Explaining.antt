@@ -1,5 +1,5 @@
 -- An accepted entry is explained by the history fed with it.
-use Rattle.std.proofs.Common.{◌≡◌, ℕ, List, [], ◌∷◌, map, take, Some, None, sym, refl, ap, ◌∙◌}
+use Rattle.std.proofs.Common.{◌≡◌, ℕ, List, [], ◌∷◌, map, take, Some, None, Option, sym, refl, ap, ◌∙◌}
 use Rattle.std.specs.Option.{option_map}
 use Rattle.std.proofs.lemmas.List.{take-map}
 use Rattle.series.specs.Plans.{plan_from, plan_of}
@@ -13,7 +13,7 @@ use Rattle.store.specs.Pairs.{key, Ascends, held}
 use Rattle.undo.specs.declared.logs.UndoLog.{UndoLog}
 use Rattle.undo.specs.declared.records.UndoRecord.TheVariants.{One}
 use Rattle.undo.specs.Logs.{records_in, record_of, records_of}
-use Rattle.diary.specs.declared.drafts.Slot.{Slot}
+use Rattle.diary.specs.declared.drafts.Draft.{Draft}
 use Rattle.diary.specs.declared.entries.Entry.{Entry}
 use Rattle.diary.specs.Entries.{PairOf, entry_plan}
 use Rattle.merge.specs.Printed.{plans_of}
@@ -24,7 +24,7 @@ module _ {S : Type 0} (days : S → List ℕ) where
   pair_plan : (uid : List ℕ) (e : Entry S) (q : Pair S) → PairOf uid e q → plan_of days q.series ≡ entry_plan days e
   pair_plan uid e q m = λ j. plan_from days (m.source j) (m.clock j) (m.duration j) (m.text j) (m.overrides j)
 
-  pub entering_explained : (h : History) (uid : List ℕ) (e : Entry S) (old new : List (Pair S)) (before after : UndoLog S) (slots : List Slot)
+  pub entering_explained : (h : History) (uid : List ℕ) (e : Entry S) (old new : List (Pair S)) (before after : UndoLog S) (slots : List (Option Draft))
       → Ascends old → held uid old ≡ None → Entered uid e old new before after → Explains h (state_of days old before slots) → Explains (fed h (enter uid (entry_plan days e)) done) (state_of days new after slots)
   entering_explained h uid e old new before after slots asc free en ex =
       let q = en.pair in

@@ -1,5 +1,6 @@
 -- What is entered, and what enter refuses.
-use Rattle.std.specs.Prelude.{◌≡◌, ℕ, ◌+◌, Bool, true, cond, not, ◌&&◌, List, [], ◌∷◌, length, is_some, Some, None, Option, nat_le, nat_lt}
+use Rattle.std.specs.Prelude.{◌≡◌, ℕ, ◌+◌, Bool, cond, not, ◌&&◌, List, length, is_some, Some, None, Option, nat_le, nat_lt}
+use Rattle.std.specs.List.{list_all}
 use Rattle.series.specs.declared.changes.Override.{Override}
 use Rattle.series.specs.declared.overrides.Overrides.{Overrides}
 use Rattle.series.specs.Octets.{is_uid, is_text, is_stamp}
@@ -8,14 +9,13 @@ use Rattle.series.specs.Values.{text_octets, stamp_octets}
 use Rattle.source.specs.Days.{among, no_days}
 use Rattle.store.specs.declared.pairs.Pair.{Pair}
 use Rattle.store.specs.Pairs.{key, held}
-use Rattle.diary.specs.declared.drafts.Slot.{Slot}
+use Rattle.diary.specs.declared.drafts.Draft.{Draft}
 use Rattle.diary.specs.declared.entries.Entry.{Entry}
 use Rattle.diary.specs.Drafts.{any_holds, all_reserved}
 
 -- every override is of one of the days
 abbrev pub on_days : List Override → List ℕ → Bool
-on_days [] days = true
-on_days (o ∷ os) days = among o.day days && on_days os days
+on_days os days = list_all (λ o. among o.day days) os
 
 module _ {S : Type 0} where
   -- the values are in bounds
@@ -25,10 +25,10 @@ module _ {S : Type 0} where
   -- the pair has the UID and the values of the entry
   pub record PairOf (uid : List ℕ) (e : Entry S) (p : Pair S) : Type 0 where
     pub uid_is : key p ≡ uid
-    pub source : p.series.source ≡ e.source
-    pub clock : p.series.clock.minute ≡ e.clock
-    pub duration : p.series.duration.minutes ≡ e.duration
-    pub text : text_octets p.series.text ≡ e.text.now
+    pub source : p.series.repeats.source ≡ e.source
+    pub clock : p.series.repeats.clock.minutes ≡ e.clock
+    pub duration : p.series.repeats.duration.minutes ≡ e.duration
+    pub text : text_octets p.series.repeats.text ≡ e.text.now
     pub stamp : stamp_octets p.series.stamp ≡ e.stamp.now
     pub overrides : p.series.overrides ≡ e.overrides
 
@@ -38,7 +38,7 @@ module _ {S : Type 0} where
     entry_plan e = plan_from days e.source e.clock e.duration e.text.now e.overrides
 
     -- what a state refuses of a pair whose values are in bounds: the UID is there, or held; the source is empty; an override is off it; there is no room
-    abbrev pub state_refusal : (limit : ℕ) → List (Pair S) → List Slot → List ℕ → S → Overrides → Option ℕ
+    abbrev pub state_refusal : (limit : ℕ) → List (Pair S) → List (Option Draft) → List ℕ → S → Overrides → Option ℕ
     state_refusal limit pairs slots uid source overrides =
         cond (is_some (held uid pairs)) (Some 12) (
         cond (any_holds uid slots) (Some 14) (
@@ -48,7 +48,7 @@ module _ {S : Type 0} where
         None))))
 
     -- the number that enter refuses with, the first that applies; none where it accepts
-    abbrev pub enter_refusal : (places limit : ℕ) → List (Pair S) → List Slot → List ℕ → Entry S → Option ℕ
+    abbrev pub enter_refusal : (places limit : ℕ) → List (Pair S) → List (Option Draft) → List ℕ → Entry S → Option ℕ
     enter_refusal places limit pairs slots uid e =
         cond (nat_lt places 16) (Some 26) (
         cond (values_fit uid e) (state_refusal limit pairs slots uid e.source e.overrides) (Some 8))

@@ -1,5 +1,5 @@
 -- The state of a diary, said by plans, and what an accepted enter makes of it.
-use Rattle.std.specs.Prelude.{◌≡◌, ℕ, List, ◌∷◌, take, None, Ok, Err, Result}
+use Rattle.std.specs.Prelude.{◌≡◌, ℕ, List, ◌∷◌, take, None, Option, Ok, Err, Result}
 use Rattle.refusal.specs.declared.Refusal.{Refusal}
 use Rattle.refusal.specs.Numbers.{number}
 use Rattle.history.specs.Histories.{Answer, done, printed, refused}
@@ -10,7 +10,7 @@ use Rattle.store.specs.Pairs.{placed}
 use Rattle.undo.specs.declared.logs.UndoLog.{UndoLog}
 use Rattle.undo.specs.declared.records.UndoRecord.TheVariants.{One}
 use Rattle.undo.specs.Logs.{records_in, records_of}
-use Rattle.diary.specs.declared.drafts.Slot.{Slot}
+use Rattle.diary.specs.declared.drafts.Draft.{Draft}
 use Rattle.diary.specs.declared.entries.Entry.{Entry}
 use Rattle.diary.specs.Drafts.{numbered}
 use Rattle.diary.specs.Entries.{PairOf}
@@ -26,7 +26,7 @@ printed_as (Ok n) octets = printed n octets
 printed_as (Err e) octets = refused (number e)
 
 module _ {S : Type 0} (days : S → List ℕ) where
-  abbrev pub state_of : List (Pair S) → UndoLog S → List Slot → State
+  abbrev pub state_of : List (Pair S) → UndoLog S → List (Option Draft) → State
   state_of pairs log slots = record { plans = plans_of days pairs; undo = records_of days log; drafts = numbered 1 slots }
 
 module _ {S : Type 0} where

@@ -1,12 +1,12 @@
 // The calls of a diary.
-ghost use Rattle.std.specs.Prelude.{◌≡◌, ℕ, ◌*◌, ◌<◌, ◌≤◌, [], length, take, drop, IfOk, Some, None, vec_len, MatchResult};
+ghost use Rattle.std.specs.Prelude.{◌≡◌, ◌*◌, ◌<◌, [], length, take, drop, IfOk, Some, None, vec_len, MatchResult};
 ghost use Rattle.refusal.specs.Numbers.{number};
 ghost use Rattle.history.specs.Explains.{Explains};
 ghost use Rattle.history.specs.Histories.{History, blank, enter, fed, agenda as asked};
 ghost use Rattle.history.specs.Items.{read};
 ghost use Rattle.history.specs.States.{occurrences};
 ghost use Rattle.merge.specs.Printed.{plans_of, Printed, Refused, Crowded};
-ghost use Rattle.page.specs.Pages.{Kept};
+ghost use Rattle.page.specs.Pages.{Stays};
 ghost use Rattle.undo.specs.declared.logs.UndoLog.{UndoLog};
 ghost use Rattle.undo.specs.Logs.{records_in};
 ghost use Rattle.diary.specs.Drafts.{numbered};
@@ -18,7 +18,9 @@ use crate::diaries::Diary;
 use crate::drafts::Drafts;
 use crate::entering::pair_of;
 use crate::entries::Entry;
+use calendar::windows::Window;
 use merge::agendas::agenda;
+use page::pages::Page;
 use refusal::Refusal;
 use std::alloc::{AllocError, Global};
 use store::stores::Store;
@@ -32,9 +34,7 @@ impl<St: Store> Diary<St> {
         ensures state { IfOk result (λ d. (d.store ≡ store) × (numbered 1 d.drafts.slots ≡ []) × Roomy St.Store.limit d) }
         ensures explained { IfOk result (λ d. (log : UndoLog St.Source) → St.Store.pairs store ≡ [] → records_in log ≡ [] → Explains blank (state_of St.Source.Source.days (St.Store.pairs d.store) log d.drafts.slots)) }
     {
-        let Some(room) = store.capacity().checked_mul(2) else {
-            return Err(AllocError);
-        };
+        let room = store.capacity().checked_mul(2).ok_or(AllocError)?;
         let nodes = vec![in heap; Node {
             start: 0,
             place: 0,
@@ -66,12 +66,8 @@ impl<St: Store> Diary<St> {
             return Err(Refusal::ShortUndoLog);
         }
         let pair = pair_of(uid, entry)?;
-        if let Some(refusal) = self.refused(&pair) {
-            return Err(refusal);
-        }
-        let Ok(()) = self.store.put(pair) else {
-            unreachable();
-        };
+        self.admit(&pair)?;
+        self.store.put(pair).unwrap();
         log.remember(UndoRecord::One(Former {
             uid: pair.uid,
             series: None,
@@ -80,27 +76,14 @@ impl<St: Store> Diary<St> {
     }
 
     // The lines of the live occurrences that start in a window, and their number. It changes nothing but its scratch room and the page.
-    pub fn agenda(
-        &mut self,
-        from: u32,
-        end: u32,
-        octets: &mut [u8],
-        len: &mut usize,
-    ) -> Result<usize, Refusal>
-        ensures kept { Kept octets.old octets.new len.old }
-        ensures cases { Roomy St.Store.limit self.old → MatchResult result (λ n. Printed (occurrences (plans_of St.Source.Source.days (St.Store.pairs self.old.store))) from end n octets.old octets.new len.old len.new) (λ e. Refused (occurrences (plans_of St.Source.Source.days (St.Store.pairs self.old.store))) from end octets.old len.old len.new e) }
-        ensures crowded { vec_len self.old.nodes < 2 * length (St.Store.pairs self.old.store) → MatchResult result (λ _. ⊥) (λ e. Crowded from end len.old len.new e) }
+    pub fn agenda(&mut self, window: Window, page: &mut Page) -> Result<usize, Refusal>
+        ensures stays { Stays page.old page.new }
+        ensures cases { Roomy St.Store.limit self.old → MatchResult result (λ n. Printed (occurrences (plans_of St.Source.Source.days (St.Store.pairs self.old.store))) window n page.old page.new) (λ e. Refused (occurrences (plans_of St.Source.Source.days (St.Store.pairs self.old.store))) window page.old page.new e) }
+        ensures crowded { vec_len self.old.nodes < 2 * length (St.Store.pairs self.old.store) → MatchResult result (λ _. ⊥) (λ e. Crowded window page.old page.new e) }
         ensures unchanged { (self.new.store ≡ self.old.store) × (self.new.drafts ≡ self.old.drafts) × (vec_len self.new.nodes ≡ vec_len self.old.nodes) }
-        ensures lines { (h : History) (log : UndoLog St.Source) → Explains h (state_of St.Source.Source.days (St.Store.pairs self.old.store) log self.old.drafts.slots) → Roomy St.Store.limit self.old → MatchResult result (λ n. Printed (read h.items) from end n octets.old octets.new len.old len.new) (λ e. Refused (read h.items) from end octets.old len.old len.new e) }
-        ensures explained { (h : History) (log : UndoLog St.Source) → Explains h (state_of St.Source.Source.days (St.Store.pairs self.old.store) log self.old.drafts.slots) → Explains (fed h (asked from end) (printed_as result (drop len.old (take len.new octets.new)))) (state_of St.Source.Source.days (St.Store.pairs self.new.store) log self.new.drafts.slots) }
+        ensures lines { (h : History) (log : UndoLog St.Source) → Explains h (state_of St.Source.Source.days (St.Store.pairs self.old.store) log self.old.drafts.slots) → Roomy St.Store.limit self.old → MatchResult result (λ n. Printed (read h.items) window n page.old page.new) (λ e. Refused (read h.items) window page.old page.new e) }
+        ensures explained { (h : History) (log : UndoLog St.Source) → Explains h (state_of St.Source.Source.days (St.Store.pairs self.old.store) log self.old.drafts.slots) → Explains (fed h (asked window.from window.end) (printed_as result (drop page.old.len (take page.new.len page.new.octets.now)))) (state_of St.Source.Source.days (St.Store.pairs self.new.store) log self.new.drafts.slots) }
     {
-        agenda(
-            &self.store,
-            self.nodes.as_mut_slice(),
-            from,
-            end,
-            octets,
-            len,
-        )
+        agenda(&self.store, self.nodes.as_mut_slice(), window, page)
     }
 }

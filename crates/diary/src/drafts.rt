@@ -5,7 +5,8 @@ use series::durations::Duration;
 use series::texts::Text;
 use series::uids::Uid;
 
-// What all occurrences of a UID are to carry.
+// What all occurrences of a UID are to carry: what a series has beside its source.
+// A series names the three one by one, for a field that held them would only lengthen each path there.
 #[derive(Clone, Copy)]
 pub struct Carried {
     pub clock: Clock,
@@ -16,18 +17,27 @@ pub struct Carried {
 // An edit that has been checked.
 #[derive(Clone, Copy)]
 pub enum Edit {
-    Cancel(u32),
-    Alter(u32, Alteration),
+    Cancel {
+        day: u32,
+    },
+    Alter {
+        day: u32,
+        alteration: Alteration,
+    },
     Whole(Carried),
     // from a day on, under a new UID
-    Split(u32, Uid, Carried),
+    Split {
+        day: u32,
+        new: Uid,
+        carried: Carried,
+    },
 }
 
+// A draft holds its UID from the start, and has its edit once that has been checked.
 #[derive(Clone, Copy)]
-pub enum Slot {
-    Free,
-    Open(Uid),
-    Checked(Uid, Edit),
+pub struct Draft {
+    pub uid: Uid,
+    pub edit: Option<Edit>,
 }
 
 // How many drafts there may be at a time.
@@ -35,5 +45,5 @@ pub const DRAFT_LIMIT: usize = 8;
 
 #[derive(Clone, Copy)]
 pub struct Drafts {
-    pub(crate) slots: [Slot; DRAFT_LIMIT],
+    pub(crate) slots: [Option<Draft>; DRAFT_LIMIT],
 }

@@ -1,10 +1,8 @@
 // The values of an entry, and what it is refused for.
 ghost use Rattle.std.specs.Prelude.{◌≡◌, ◌+◌, true, false, length, is_some, MatchResult, nat_le};
 ghost use Rattle.refusal.specs.Numbers.{number};
-ghost use Rattle.std.specs.Option.{option_map};
 ghost use Rattle.series.specs.Values.{uid_octets};
 ghost use Rattle.diary.specs.Drafts.{all_reserved};
-ghost use Rattle.series.specs.Plans.{overrides_of};
 ghost use Rattle.diary.specs.Entries.{values_fit, PairOf, on_days, state_refusal};
 ghost use Rattle.store.specs.Pairs.{key, held};
 
@@ -14,6 +12,7 @@ use refusal::Refusal;
 use series::changes::Override;
 use series::clocks::Clock;
 use series::durations::Duration;
+use series::records::Series;
 use series::stamps::Stamp;
 use series::stored::StoredSeries;
 use series::texts::Text;
@@ -35,10 +34,12 @@ pub(crate) fn pair_of<S: Copy>(uid: &[u8], entry: &Entry<S>) -> Result<Pair<S>, 
     Ok(Pair {
         uid,
         series: StoredSeries {
-            source: entry.source,
-            clock,
-            duration,
-            text,
+            repeats: Series {
+                source: entry.source,
+                clock,
+                duration,
+                text,
+            },
             stamp,
             overrides: entry.overrides,
         },
@@ -49,22 +50,15 @@ pub(crate) fn pair_of<S: Copy>(uid: &[u8], entry: &Entry<S>) -> Result<Pair<S>, 
 fn on_days<S: Source>(overrides: &[Override], source: &S) -> bool
     ensures { result ≡ on_days overrides.now (S.Source.days source.now) }
 {
-    for item in overrides {
-        if !has_day(source, item.day) {
-            return false;
-        }
-    }
-    true
+    overrides.iter().all(|item| has_day(source, item.day))
 }
 
 // Whether a store has the UID.
+#[tactic(auto, using(crate::proofs::Places::place_held))]
 fn is_present<St: Store>(store: &St, uid: &Uid) -> bool
     ensures { result ≡ is_some (held (uid_octets uid.now) (St.Store.pairs store.now)) }
 {
-    match store.place(uid) {
-        Some(_) => true,
-        None => false,
-    }
+    store.place(uid).is_some()
 }
 
 impl<St: Store> Diary<St> {
@@ -72,32 +66,32 @@ impl<St: Store> Diary<St> {
     fn is_full(&self) -> bool
         ensures { result ≡ nat_le (St.Store.limit self.now.store) (length (St.Store.pairs self.now.store) + all_reserved self.now.drafts.slots) }
     {
-        let capacity = self.store.capacity();
-        let Some(taken) = self.store.count().checked_add(self.drafts.reserved()) else {
-            return true;
-        };
-        taken >= capacity
+        let taken = self.store.count().saturating_add(self.drafts.reserved());
+        taken >= self.store.capacity()
     }
 
-    // What the diary refuses of a pair, the first that applies.
-    pub(crate) fn refused(&self, pair: &Pair<St::Source>) -> Option<Refusal>
-        ensures { option_map number result ≡ state_refusal St.Source.Source.days (St.Store.limit self.now.store) (St.Store.pairs self.now.store) self.now.drafts.slots (key pair.now) pair.now.series.source pair.now.series.overrides }
+    // Refuses what it cannot take of a pair, for the first reason that applies.
+    pub(crate) fn admit(&self, pair: &Pair<St::Source>) -> Result<(), Refusal>
+        ensures { MatchResult result (λ _. state_refusal St.Source.Source.days (St.Store.limit self.now.store) (St.Store.pairs self.now.store) self.now.drafts.slots (key pair.now) pair.now.series.repeats.source pair.now.series.overrides ≡ None) (λ e. state_refusal St.Source.Source.days (St.Store.limit self.now.store) (St.Store.pairs self.now.store) self.now.drafts.slots (key pair.now) pair.now.series.repeats.source pair.now.series.overrides ≡ Some (number e)) }
     {
         if is_present(&self.store, &pair.uid) {
-            return Some(Refusal::UidPresent);
+            return Err(Refusal::UidPresent);
         }
         if self.drafts.holds(&pair.uid) {
-            return Some(Refusal::UidHeld);
+            return Err(Refusal::UidHeld);
         }
-        if is_empty(&pair.series.source) {
-            return Some(Refusal::EmptySource);
+        if is_empty(&pair.series.repeats.source) {
+            return Err(Refusal::EmptySource);
         }
-        if !on_days(pair.series.overrides.as_slice(), &pair.series.source) {
-            return Some(Refusal::OffSource);
+        if !on_days(
+            pair.series.overrides.as_slice(),
+            &pair.series.repeats.source,
+        ) {
+            return Err(Refusal::OffSource);
         }
         if self.is_full() {
-            return Some(Refusal::StoreFull);
+            return Err(Refusal::StoreFull);
         }
-        None
+        Ok(())
     }
 }

@@ -1,6 +1,8 @@
 // The agenda at the edges of its window and of its page.
 use crate::samples::{altered, cancelled, entry, sundays};
+use calendar::windows::Window;
 use diary::diaries::Diary;
+use page::pages::Page;
 use refusal::Refusal;
 use series::overrides::Overrides;
 use source::intervals::Interval;
@@ -35,12 +37,14 @@ fn two_series(rt: &impl Abort, heap: Global) -> Result<Diary<Table<Interval>>, F
 
 // Whether the page of a window has these octets.
 fn prints(diary: &mut Diary<Table<Interval>>, from: u32, end: u32, expected: &[u8]) -> bool {
-    let mut page = [0u8; 200];
-    let mut len = 0;
-    match diary.agenda(from, end, &mut page, &mut len) {
-        Ok(_) => len <= 200 && page.iter().take(len).eq(expected.iter()),
-        Err(_) => false,
-    }
+    let mut octets = [0; 200];
+    let mut page = Page {
+        octets: &mut octets,
+        len: 0,
+    };
+    let answer = diary.agenda(Window { from, end }, &mut page);
+    let len = page.len;
+    answer.is_ok() && octets.get(..len).is_some_and(|lines| lines == expected)
 }
 
 #[test]
@@ -88,23 +92,23 @@ fn an_empty_window_and_refusals(rt: HostRuntime) -> Result<(), Fail> {
     assert!(rt; prints(&mut diary, at, at, b""));
     assert!(rt; prints(&mut diary, at, at + 1, b"20240107,1830,45,b,B\n"));
     assert!(rt; prints(&mut diary, 157_785_120, 157_785_120, b""));
-    let mut page = [0u8; 4];
-    let mut len = 5;
-    assert_eq!(rt;
-        diary.agenda(1, 0, &mut page, &mut len),
-        Err(Refusal::BadWindow)
-    );
-    assert_eq!(rt;
-        diary.agenda(0, 157_785_121, &mut page, &mut len),
-        Err(Refusal::BadWindow)
-    );
-    assert_eq!(rt;
-        diary.agenda(0, 0, &mut page, &mut len),
-        Err(Refusal::PageFull)
-    );
-    assert_eq!(rt; len, 5);
-    len = 4;
-    assert_eq!(rt; diary.agenda(0, 0, &mut page, &mut len), Ok(0));
+    let mut octets = [0; 4];
+    let mut page = Page {
+        octets: &mut octets,
+        len: 5,
+    };
+    let backwards = Window { from: 1, end: 0 };
+    let late = Window {
+        from: 0,
+        end: 157_785_121,
+    };
+    let none = Window { from: 0, end: 0 };
+    assert_eq!(rt; diary.agenda(backwards, &mut page), Err(Refusal::BadWindow));
+    assert_eq!(rt; diary.agenda(late, &mut page), Err(Refusal::BadWindow));
+    assert_eq!(rt; diary.agenda(none, &mut page), Err(Refusal::PageFull));
+    assert_eq!(rt; page.len, 5);
+    page.len = 4;
+    assert_eq!(rt; diary.agenda(none, &mut page), Ok(0));
     Ok(())
 }
 
@@ -112,16 +116,23 @@ fn an_empty_window_and_refusals(rt: HostRuntime) -> Result<(), Fail> {
 fn a_page_one_octet_short(rt: HostRuntime) -> Result<(), Fail> {
     let mut diary = two_series(&rt, rt.alloc())?;
     let at = SUNDAY * DAY + 1110;
-    let mut page = [0u8; 21];
-    let mut len = 0;
-    assert_eq!(rt; diary.agenda(at, at + 1, &mut page, &mut len), Ok(1));
-    assert_eq!(rt; len, 21);
-    let mut short = [0u8; 20];
-    len = 0;
-    assert_eq!(rt;
-        diary.agenda(at, at + 1, &mut short, &mut len),
-        Err(Refusal::PageFull)
-    );
-    assert_eq!(rt; len, 0);
+    let window = Window {
+        from: at,
+        end: at + 1,
+    };
+    let mut octets = [0; 21];
+    let mut page = Page {
+        octets: &mut octets,
+        len: 0,
+    };
+    assert_eq!(rt; diary.agenda(window, &mut page), Ok(1));
+    assert_eq!(rt; page.len, 21);
+    let mut short = [0; 20];
+    let mut page = Page {
+        octets: &mut short,
+        len: 0,
+    };
+    assert_eq!(rt; diary.agenda(window, &mut page), Err(Refusal::PageFull));
+    assert_eq!(rt; page.len, 0);
     Ok(())
 }

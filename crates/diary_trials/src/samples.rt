@@ -5,6 +5,7 @@ use series::changes::{Alteration, Change, Override};
 use series::clocks::Clock;
 use series::durations::Duration;
 use series::overrides::Overrides;
+use series::records::Series;
 use series::stamps::Stamp;
 use series::stored::StoredSeries;
 use series::texts::Text;
@@ -24,10 +25,12 @@ pub fn pair(uid: &[u8]) -> Result<Pair<Interval>, Refusal> {
     Ok(Pair {
         uid: Uid::new(uid)?,
         series: StoredSeries {
-            source: sundays()?,
-            clock: Clock::new(1110)?,
-            duration: Duration::new(45)?,
-            text: Text::new(uid)?,
+            repeats: Series {
+                source: sundays()?,
+                clock: Clock::new(1110)?,
+                duration: Duration::new(45)?,
+                text: Text::new(uid)?,
+            },
             stamp: Stamp::new(STAMP)?,
             overrides: Overrides::none(),
         },

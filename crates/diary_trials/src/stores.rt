@@ -7,26 +7,12 @@ use std::test::Fail;
 use store::stores::Store;
 use table::tables::Table;
 
-// The UIDs of a store, one behind the other, as octets.
-fn uids<St: Store>(store: &St, octets: &mut [u8]) -> usize {
-    let mut len = 0;
-    for place in 0..store.count() {
-        if let Some(held) = store.at(place) {
-            for octet in held.uid.as_bytes() {
-                if len < octets.len() {
-                    octets[len] = *octet;
-                    len += 1;
-                }
-            }
-        }
-    }
-    len
-}
-
+// Whether the UIDs of a store, one behind the other, are these octets.
 fn has_uids<St: Store>(store: &St, expected: &[u8]) -> bool {
-    let mut octets = [0u8; 16];
-    let len = uids(store, &mut octets);
-    len <= 16 && octets.iter().take(len).eq(expected.iter())
+    (0..store.count())
+        .filter_map(|place| store.at(place))
+        .flat_map(|pair| pair.uid.as_bytes())
+        .eq(expected)
 }
 
 #[test]

@@ -1,44 +1,18 @@
 // The agenda's lines of one event in a window.
-ghost use Rattle.std.specs.Prelude.{◌≡◌, ℕ, ◌+◌, ◌*◌, ◌<◌, ◌≤◌, List, length, Some, MatchOption, MatchResult};
+// A UID and its series stay two parameters: a struct of both would be made in `agenda` alone, and lengthen each clause.
+ghost use Rattle.std.specs.Prelude.{◌≡◌, ℕ, ◌+◌, ◌*◌, ◌<◌, ◌≤◌, length, MatchResult};
 ghost use Rattle.calendar.specs.Years.{last_day};
-ghost use Rattle.page.specs.Pages.{Added, Full, Kept, Short};
-ghost use Rattle.source.specs.Days.{first_from};
-ghost use Rattle.event.specs.Agenda.{day_line, agenda_text, shown_days, early, Printed, Refused};
+ghost use Rattle.page.specs.Pages.{Stays, Puts, Breaks, Lacks};
+ghost use Rattle.event.specs.Agenda.{day_line, agenda_text, shown_days, Printed, Refused};
 
+use crate::events::Event;
 use calendar::days::date_of;
-use calendar::starts::{DAY_MINUTES, STARTS_END};
-use page::lines::put_line;
-use page::pages::Guard;
+use calendar::starts::DAY_MINUTES;
+use calendar::windows::Window;
+use page::pages::Page;
 use refusal::Refusal;
-use series::records::Series;
-use series::uids::Uid;
 use source::sources::Source;
-
-// Adds the line of the occurrence on a day.
-fn put_day<S>(
-    octets: &mut [u8],
-    len: &mut usize,
-    uid: &Uid,
-    series: &Series<S>,
-    day: u32,
-) -> Result<(), Refusal>
-    requires { day ≤ last_day }
-    ensures kept { Kept octets.old octets.new len.old }
-    ensures cases { MatchResult result (λ _. Added (day_line uid.now series.now day) octets.old octets.new len.old len.new) (λ e. Full (day_line uid.now series.now day) octets.old len.old len.new e) }
-{
-    let Some(date) = date_of(day) else {
-        unreachable();
-    };
-    put_line(
-        octets,
-        len,
-        date,
-        series.clock.minute(),
-        series.duration.minutes(),
-        uid.as_bytes(),
-        series.text.as_bytes(),
-    )
-}
+use source::walks::days_from;
 
 // The first day that starts at or after a number of minutes.
 fn first_day(from: u32, clock: u16) -> u32
@@ -47,72 +21,56 @@ fn first_day(from: u32, clock: u16) -> u32
     ensures above { (d : ℕ) → result ≤ d → from ≤ d * 1440 + clock }
     ensures bound { result ≤ 109573 }
 {
-    let clock = clock as u32;
-    if from <= clock {
-        return 0;
-    }
-    (from - clock + DAY_MINUTES - 1) / DAY_MINUTES
+    from.saturating_sub(clock as u32).div_ceil(DAY_MINUTES)
 }
 
-// The first day at or after a number whose occurrence starts before the end, or none.
-fn next_shown<S: Source>(series: &Series<S>, next: u32, end: u32) -> Option<u32>
-    ensures { result ≡ early series.now.clock.minute end (first_from next (S.Source.days series.now.source)) }
-{
-    let day = series.source.first_at(next)?;
-    if day * DAY_MINUTES + series.clock.minute() as u32 >= end {
-        return None;
+impl<S> Event<S> {
+    // Adds the line of the occurrence on a day.
+    fn put_day(&self, day: u32, page: &mut Page) -> Result<(), Refusal>
+        requires { day ≤ last_day }
+        ensures stays { Stays page.old page.new }
+        ensures cases { MatchResult result (λ _. Puts (day_line self.now.uid self.now.series day) page.old page.new) (λ e. Lacks (day_line self.now.uid self.now.series day) page.old page.new e) }
+    {
+        page.put_line(
+            date_of(day).unwrap(),
+            self.series.clock.minutes(),
+            self.series.duration.minutes(),
+            self.uid.as_bytes(),
+            self.series.text.as_bytes(),
+        )
     }
-    Some(day)
 }
 
-// Adds the lines of a window day by day; a refusal leaves those before it.
-fn put_days<S: Source>(
-    uid: &Uid,
-    series: &Series<S>,
-    from: u32,
-    end: u32,
-    octets: &mut [u8],
-    len: &mut usize,
-) -> Result<usize, Refusal>
-    requires { (from ≤ 157785120) × (len.old ≤ length octets.old) }
-    ensures kept { Kept octets.old octets.new len.old }
-    ensures cases { MatchResult result (λ n. (n ≡ length (shown_days S.Source.days series.now from end)) × Added (agenda_text S.Source.days uid.now series.now from end) octets.old octets.new len.old len.new) (λ e. Short (agenda_text S.Source.days uid.now series.now from end) octets.old len.old e) }
-{
-    let mut next = first_day(from, series.clock.minute());
-    let mut lines = 0;
-    while let Some(day) = next_shown(series, next, end) {
-        put_day(octets, len, uid, series, day)?;
-        lines += 1;
-        next = day + 1;
+impl<S: Source> Event<S> {
+    // Adds the lines of a window day by day; a refusal leaves those before it.
+    fn put_days(&self, window: Window, page: &mut Page) -> Result<usize, Refusal>
+        requires { window.from ≤ 157785120 }
+        ensures stays { Stays page.old page.new }
+        ensures cases { MatchResult result (λ n. (n ≡ length (shown_days S.Source.days self.now.series window)) × Puts (agenda_text S.Source.days self.now.uid self.now.series window) page.old page.new) (λ e. Breaks (agenda_text S.Source.days self.now.uid self.now.series window) page.old e) }
+    {
+        if page.len > page.octets.len() {
+            return Err(Refusal::PageFull);
+        }
+        let minute = self.series.clock.minutes();
+        let mut lines = 0;
+        for day in days_from(&self.series.source, first_day(window.from, minute)) {
+            if day * DAY_MINUTES + minute as u32 >= window.end {
+                break;
+            }
+            self.put_day(day, page)?;
+            lines += 1;
+        }
+        Ok(lines)
     }
-    Ok(lines)
-}
 
-// The event's lines for the occurrences that start in a window, and their number.
-pub fn agenda<S: Source>(
-    uid: &Uid,
-    series: &Series<S>,
-    from: u32,
-    end: u32,
-    octets: &mut [u8],
-    len: &mut usize,
-) -> Result<usize, Refusal>
-    ensures kept { Kept octets.old octets.new len.old }
-    ensures cases { MatchResult result (λ n. Printed S.Source.days uid.now series.now from end n octets.old octets.new len.old len.new) (λ e. Refused S.Source.days uid.now series.now from end octets.old len.old len.new e) }
-{
-    if from > end || end > STARTS_END {
-        return Err(Refusal::BadWindow);
+    // The event's lines for the occurrences that start in a window, and their number.
+    pub fn agenda(&self, window: Window, page: &mut Page) -> Result<usize, Refusal>
+        ensures stays { Stays page.old page.new }
+        ensures cases { MatchResult result (λ n. Printed S.Source.days self.now.uid self.now.series window n page.old page.new) (λ e. Refused S.Source.days self.now.uid self.now.series window page.old page.new e) }
+    {
+        if !window.is_sound() {
+            return Err(Refusal::BadWindow);
+        }
+        page.whole(|page| self.put_days(window, page))
     }
-    let start = *len;
-    if start > octets.len() {
-        return Err(Refusal::PageFull);
-    }
-    let mut guard = Guard {
-        len,
-        start,
-        done: false,
-    };
-    let lines = put_days(uid, series, from, end, octets, guard.len)?;
-    guard.done = true;
-    Ok(lines)
 }

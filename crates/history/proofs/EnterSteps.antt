@@ -1,12 +1,12 @@
 -- Enter: a plan at a UID that has none.
-use Rattle.std.proofs.Common.{◌≡◌, ℕ, ◌⊎◌, List, [], ◌∷◌, Some, None, sym, refl, ap, ◌∙◌, inl, inr}
+use Rattle.std.proofs.Common.{◌≡◌, ℕ, ◌⊎◌, List, [], ◌∷◌, Some, None, sym, refl, ◌∙◌, inl, inr}
 use Rattle.series.specs.Members.{Mem}
 use Rattle.series.specs.Plans.{Plan, on, occurrences_of}
 use Rattle.history.specs.Items.{Item, enters}
 use Rattle.history.specs.States.{Map, put, puts}
 use Rattle.history.specs.Explains.{In, Holds, Agree}
 use Rattle.history.proofs.Members.{mem_map, map_mem}
-use Rattle.history.proofs.Maps.{decide, none_some, put_same, put_other}
+use Rattle.history.proofs.Maps.{decide, put_same, put_other}
 use Rattle.history.proofs.Steps.{Was, Moves, Renames, agree_more, was_there, in_at, at_in}
 
 module _ (u : List ℕ) (p : Plan) (f : Map) (free : f u ≡ None) where
@@ -15,7 +15,7 @@ module _ (u : List ℕ) (p : Plan) (f : Map) (free : f u ≡ None) where
 
   -- what is held stands elsewhere
   apart : (w : List ℕ) (q : Plan) → f w ≡ Some q → ¬ (u ≡ w)
-  apart w q held e = none_some q (sym free ∙ ap f e ∙ held)
+  apart w q held e = cc
 
   moves : Moves (enters u p) f g
   moves o = (λ h. forth h (decide u h.uid), back)

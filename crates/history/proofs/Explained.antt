@@ -10,7 +10,7 @@ use Rattle.history.specs.States.{Ascends, Map, at, puts, Record, priors, occurre
 use Rattle.history.specs.Explains.{Agree, Stands, Explains}
 use Rattle.history.specs.EditPuts.{edit_puts}
 use Rattle.history.specs.StepLaws.{LawOfBlank, LawOfAgenda, LawOfChange, LawOfEnter, LawOfCommit, LawOfUndo, LawOfDrafts, LawOfCheck}
-use Rattle.history.proofs.Maps.{none_some, back}
+use Rattle.history.proofs.Maps.{back}
 use Rattle.history.proofs.Placings.{occurrences_in}
 use Rattle.history.proofs.OneLists.{agenda_like}
 use Rattle.history.proofs.EnterSteps.{enter_step}
@@ -79,7 +79,7 @@ committed_explained h old new n e p ex note held free ch =
     (change_explained (edits e) (edit_puts e p) h old new (edit_step e (at old.plans) p held free h.items) ex ch)
 
 none : Agree [] (at [])
-none = record { same = λ o. (λ m. absurd m, λ h. none_some h.plan h.held); uids = λ u. (λ m. absurd m, λ h. none_some h.0 h.1) }
+none = record { same = λ o. (λ m. absurd m, λ h. cc); uids = λ u. (λ m. absurd m, λ h. cc) }
 
 pub blank_explained : LawOfBlank
 blank_explained st plans undos drafts = record {
@@ -98,7 +98,7 @@ pub redrafted_explained : LawOfDrafts
 redrafted_explained h old new ex re = record {
   stands = stands_still h.items old new re.plans re.undo ex.stands;
   undos = ex.undos ∙ ap length (sym re.undo);
-  drafts = λ d m e q. elim (re.drafts d m) [ inl n ↦ absurd (none_some e (sym n ∙ q)) | inr k ↦ ex.drafts d k e q ];
+  drafts = λ d m e q. elim (re.drafts d m) [ inl n ↦ cc | inr k ↦ ex.drafts d k e q ];
 }
 
 pub checked_explained : LawOfCheck

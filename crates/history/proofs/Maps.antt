@@ -1,7 +1,9 @@
 -- The map's put and puts; what a record of puts changed, the record of what stood before takes back.
-use Rattle.std.proofs.Common.{◌≡◌, ℕ, Bool, true, false, cond, ◌⊎◌, List, [], ◌∷◌, map, Some, None, Option, sym, refl, ap, ◌∙◌, inl, inr, arith}
+use Rattle.std.proofs.Common.{◌≡◌, ℕ, true, false, cond, ◌⊎◌, List, [], ◌∷◌, map, Option, sym, refl, ap, ◌∙◌, inl, inr}
 use mathlib.Core.Path.{fun_ext}
 use Rattle.std.specs.Str.{bytes_eq}
+use Rattle.std.proofs.lemmas.Bool.{cases_Bool, false_from_ne_true}
+use Rattle.std.proofs.lemmas.Bool.Decides.{not_from_Decides}
 use Rattle.std.proofs.lemmas.Slice.Eq.{bytes_eq-Decides}
 use Rattle.series.specs.Members.{Mem}
 use Rattle.series.specs.Plans.{Plan}
@@ -13,27 +15,16 @@ pub same_uid : {u w : List ℕ} → u ≡ w → bytes_eq u w ≡ true
 same_uid {u} {w} e = (bytes_eq-Decides u w).1 e
 
 pub own_uid : (u : List ℕ) → bytes_eq u u ≡ true
-own_uid u = (bytes_eq-Decides u u).1 refl
+own_uid u = same_uid {u = u} {w = u} refl
 
 pub other_uid : {u w : List ℕ} → ¬ (u ≡ w) → bytes_eq u w ≡ false
-other_uid {u} {w} n = go (bytes_eq u w) refl
-  where
-    go : (b : Bool) → bytes_eq u w ≡ b → bytes_eq u w ≡ false
-    go true t = absurd (n ((bytes_eq-Decides u w).0 t))
-    go false t = t
+other_uid {u} {w} n = false_from_ne_true (bytes_eq u w) (λ t. n ((bytes_eq-Decides u w).0 t))
 
 pub decide : (u w : List ℕ) → (u ≡ w) ⊎ (¬ (u ≡ w))
-decide u w = go (bytes_eq u w) refl
-  where
-    go : (b : Bool) → bytes_eq u w ≡ b → (u ≡ w) ⊎ (¬ (u ≡ w))
-    go true t = inl ((bytes_eq-Decides u w).0 t)
-    go false t = inr (λ e. let s : bytes_eq u w ≡ true = same_uid e in let z : ◌≡◌ {A = ℕ} 0 1 = cc in omega arith)
-
-pub some_inj : {X : Type 0} (x y : X) → ◌≡◌ {A = Option X} (Some x) (Some y) → x ≡ y
-some_inj x y e = cc
-
-pub none_some : {X : Type 0} (x : X) → ◌≡◌ {A = Option X} None (Some x) → ⊥
-none_some x e = let z : ◌≡◌ {A = ℕ} 0 1 = cc in omega arith
+decide u w = elim (cases_Bool (bytes_eq u w)) [
+  | inl t ↦ inl ((bytes_eq-Decides u w).0 t)
+  | inr t ↦ inr (not_from_Decides (bytes_eq u w) (bytes_eq-Decides u w) t)
+]
 
 pub put_same : (u : List ℕ) (v : Option Plan) (f : Map) (w : List ℕ) → u ≡ w → put u v f w ≡ v
 put_same u v f w e = ap (λ b. cond b v (f w)) (same_uid e)

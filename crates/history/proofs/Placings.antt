@@ -11,7 +11,7 @@ use Rattle.history.specs.States.{Plans, Ascends, at, put, leading, placing, puts
 use Rattle.history.specs.Explains.{In}
 use Rattle.history.specs.PlanLaws.{PlacedIsPut, PlacedIsPuts, StaysAscending, OccurrencesOfMap}
 use Rattle.history.proofs.Members.{mem_append, mem_append_left, mem_append_right, mem_map, map_mem}
-use Rattle.history.proofs.Maps.{same_uid, other_uid, decide, some_inj, none_some}
+use Rattle.history.proofs.Maps.{same_uid, other_uid, decide}
 
 abbrev Above : List ℕ → Plans → Type 0
 Above u ps = AllByRecursion (λ q. Ahead u q.0) ps
@@ -126,16 +126,16 @@ occurs (p ∷ ps) h o m = elim (mem_append o (occurrences_of p.0 p.1) (occurrenc
 ]
   where
     tail : (i : In (at ps) o) → (p.0 ≡ i.uid) ⊎ (¬ (p.0 ≡ i.uid)) → In (at (p ∷ ps)) o
-    tail i (inl q) = absurd (none_some i.plan (sym (none_below p.0 ps h.0) ∙ ap (at ps) q ∙ i.held))
+    tail i (inl q) = cc (none_below p.0 ps h.0)
     tail i (inr n) = record { uid = i.uid; plan = i.plan; day = i.day; held = at_other p ps i.uid n ∙ i.held; among = i.among; is = i.is }
 
 found : (ps : Plans) (u : List ℕ) (s : Plan) (o : Occurrence) → at ps u ≡ Some s → Mem o (occurrences_of u s) → Mem o (occurrences ps)
-found [] u s o e m = absurd (none_some s e)
+found [] u s o e m = cc
 found (p ∷ ps) u s o e m = go (decide p.0 u) (found ps u s o)
   where
     go : (p.0 ≡ u) ⊎ (¬ (p.0 ≡ u)) → (at ps u ≡ Some s → Mem o (occurrences_of u s) → Mem o (occurrences ps)) → Mem o (occurrences_of p.0 p.1 ++ occurrences ps)
     go (inl q) ih =
-        let same : p.1 ≡ s = some_inj p.1 s (sym (at_same p ps u q) ∙ e) in
+        let same : p.1 ≡ s = cc (at_same p ps u q) in
         mem_append_left o (occurrences_of p.0 p.1) (occurrences ps) (subst (Mem o) (λ j. occurrences_of (sym q j) (sym same j)) m)
     go (inr n) ih = mem_append_right o (occurrences_of p.0 p.1) (occurrences ps) (ih (sym (at_other p ps u n) ∙ e) m)
 

@@ -9,7 +9,7 @@ use Rattle.history.specs.Items.{Item, split, edits}
 use Rattle.history.specs.States.{Map, put, puts}
 use Rattle.history.specs.Explains.{In, Holds, Agree}
 use Rattle.history.proofs.Members.{mem_kept, kept_mem}
-use Rattle.history.proofs.Maps.{own_uid, decide, none_some, put_same, put_other}
+use Rattle.history.proofs.Maps.{own_uid, decide, put_same, put_other}
 use Rattle.history.proofs.Steps.{Was, Moves, Renames, There, agree_more, was_there, in_at, at_in}
 use Rattle.history.proofs.InPlace.{asks_first}
 
@@ -30,7 +30,7 @@ module _ (e : Split) (f : Map) (p : Plan) (held : f e.uid ≡ Some p) (free : f 
   g = put e.new (Some (tail_plan e p)) left
 
   apart : ¬ (e.new ≡ e.uid)
-  apart q = none_some p (sym free ∙ ap f q ∙ held)
+  apart q = cc
 
   at_new : g e.new ≡ Some (tail_plan e p)
   at_new = put_same e.new (Some (tail_plan e p)) left e.new refl
@@ -70,7 +70,7 @@ module _ (e : Split) (f : Map) (p : Plan) (held : f e.uid ≡ Some p) (free : f 
               at_in g o e.uid (head_plan e p) at_old (record { day = t.day; among = mem_kept (λ x. ltb x e.day) p.days t.among z; is = r.2 ∙ ap (split_by e) t.is ∙ head_here e p t.day z })
 
       back : (r : Was (edits (split e)) f o) → Where r.1.uid → In g o
-      back r (new q) = absurd (none_some r.1.plan (sym free ∙ ap f q ∙ r.1.held))
+      back r (new q) = let h = r.1 in cc
       back r (old q) = cut r (in_at f r.0 r.1 e.uid p q held)
       back r (other k q) = let h = r.1 in was_there f g o r.0 h q (r.2 ∙ elsewhere e r.0 (λ s. k (s ∙ ap (λ x. x.uid) h.is)))
 

@@ -1,12 +1,11 @@
 -- What an item and its puts make of the map's occurrences and UIDs, and what it makes of those of the items.
-use Rattle.std.proofs.Common.{◌≡◌, ℕ, ◌⊎◌, ◌↔◌, List, ◌∷◌, ◌++◌, map, Some, sym, ap, ◌∙◌, subst, inl, inr}
+use Rattle.std.proofs.Common.{◌≡◌, ℕ, ◌⊎◌, ◌↔◌, List, ◌∷◌, ◌++◌, map, Some, sym, ◌∙◌, subst, inl, inr}
 use Rattle.series.specs.Members.{Mem}
 use Rattle.series.specs.Plans.{Plan, Occurrence, on}
 use Rattle.history.specs.Items.{Item, touched, fresh, brought, read, known}
 use Rattle.history.specs.States.{Map}
 use Rattle.history.specs.Explains.{In, Holds, Agree}
 use Rattle.history.proofs.Members.{mem_append, mem_append_left, mem_append_right, mem_map, map_mem}
-use Rattle.history.proofs.Maps.{some_inj}
 
 abbrev pub Was : Item → Map → Occurrence → Type 0
 Was i f o = (p : Occurrence) × In f p × (o ≡ touched i p)
@@ -52,7 +51,7 @@ pub record There (o : Occurrence) (u : List ℕ) (p : Plan) : Type 0 where
 
 pub in_at : (f : Map) (o : Occurrence) (h : In f o) (u : List ℕ) (p : Plan) → u ≡ h.uid → f u ≡ Some p → There o u p
 in_at f o h u p q e =
-    let same : h.plan ≡ p = some_inj h.plan p (sym h.held ∙ ap f (sym q) ∙ e) in
+    let same : h.plan ≡ p = cc in
     record { day = h.day; among = subst (λ (s : Plan). Mem h.day s.days) same h.among; is = h.is ∙ (λ j. on (sym q j) (same j) h.day) }
 
 pub at_in : (f : Map) (o : Occurrence) (u : List ℕ) (p : Plan) → f u ≡ Some p → There o u p → In f o

@@ -41,6 +41,7 @@ pub fn find<R: Keyed>(records: &[R], key: &R::Key) -> Result<usize, usize>
     requires { Rising R.Keyed.before records.now }
     ensures { MatchResult result (λ i. Present R.Keyed.same records.now key.now i) (λ i. Absent R.Keyed.less R.Keyed.same R.Keyed.more records.now key.now i) }
 {
+    // Halved by hand: `binary_search_by` says its place only of an order that is a function (`ComputesKey`), and a record's order is known by relations.
     let mut low = 0;
     let mut high = records.len();
     while low < high {

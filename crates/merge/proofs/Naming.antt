@@ -41,7 +41,7 @@ module _ {S : Type 0} (days : S → List ℕ) where
 
   abbrev DayBy : Option (Pair S) → ℕ → Type 0
   DayBy None d = ⊥
-  DayBy (Some q) d = Mem d (days q.series.source)
+  DayBy (Some q) d = Mem d (days q.series.repeats.source)
 
   shows_by : (o : Option (Pair S)) (d : ℕ) → DayBy o d → live (occurrence_by days o d) ≡ true → ShowsBy days o (shown_start (occurrence_by days o d)) d
   shows_by None d m l = absurd m
@@ -58,13 +58,13 @@ module _ {S : Type 0} (days : S → List ℕ) where
   in_place : (ps : List (Pair S)) (o : Occurrence) → Mem o (occurrences (plans_of days ps)) → Placed ps o
   in_place [] o h = absurd h
   in_place (p ∷ ps) o h = elim (mem_append o (occurrences_of (key p) (plan_of days p.series)) (occurrences (plans_of days ps)) h) [
-    | inl m ↦ (let r = map_mem (on (key p) (plan_of days p.series)) (days p.series.source) m in record { place = zero; day = r.0; under = omega arith; among = r.1; is = r.2 })
+    | inl m ↦ (let r = map_mem (on (key p) (plan_of days p.series)) (days p.series.repeats.source) m in record { place = zero; day = r.0; under = omega arith; among = r.1; is = r.2 })
     | inr m ↦ (let r = in_place ps o m in record { place = suc r.place; day = r.day; under = (let k : r.place < length ps = r.under in omega arith); among = r.among; is = r.is })
   ]
 
   place_in : (ps : List (Pair S)) (p s d : ℕ) → ShowsAt days ps p s d → Mem (occurrence_by days (pair_at ps p) d) (occurrences (plans_of days ps))
   place_in [] p s d h = absurd h
-  place_in (q ∷ ps) zero s d h = mem_append_left _ (occurrences_of (key q) (plan_of days q.series)) (occurrences (plans_of days ps)) (mem_map (on (key q) (plan_of days q.series)) _ (days q.series.source) h.among refl)
+  place_in (q ∷ ps) zero s d h = mem_append_left _ (occurrences_of (key q) (plan_of days q.series)) (occurrences (plans_of days ps)) (mem_map (on (key q) (plan_of days q.series)) _ (days q.series.repeats.source) h.among refl)
   place_in (q ∷ ps) (suc p) s d h = mem_append_right _ (occurrences_of (key q) (plan_of days q.series)) (occurrences (plans_of days ps)) (place_in ps p s d h)
 
   -- the UIDs ascend by place

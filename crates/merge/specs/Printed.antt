@@ -3,10 +3,12 @@ use Rattle.std.specs.Prelude.{◌≡◌, ℕ, ◌+◌, ◌/◌, ◌%◌, ◌<◌
 use Rattle.std.specs.List.{flat_map}
 use Rattle.calendar.specs.Dates.{date_of}
 use Rattle.calendar.specs.Starts.{is_window}
+use Rattle.calendar.specs.declared.windows.Window.{Window}
 use Rattle.history.specs.Agendas.{IsAgenda}
 use Rattle.history.specs.States.{Plans}
 use Rattle.page.specs.Lines.{line_text}
-use Rattle.page.specs.Pages.{Added}
+use Rattle.page.specs.Pages.{Puts}
+use Rattle.page.specs.declared.pages.Page.{Page}
 use Rattle.refusal.specs.declared.Refusal.{Refusal}
 use Rattle.refusal.specs.Numbers.{number as number_of}
 use Rattle.series.specs.Plans.{Occurrence, plan_of, shown_start, shown_text}
@@ -22,25 +24,25 @@ module _ {S : Type 0} (days : S → List ℕ) where
   abbrev pub plans_of : List (Pair S) → Plans
   plans_of ps = map (λ p. (key p, plan_of days p.series)) ps
 
--- n lines were printed: o and p are the page's octets before and after, l and m its lengths
-pub record Printed (os : List Occurrence) (from end n : ℕ) (o p : List ℕ) (l m : ℕ) : Type 0 where
-  pub window : is_window from end ≡ true
+-- n lines were printed: p and q are the page before and after
+pub record Printed (os : List Occurrence) (w : Window) (n : ℕ) (p q : Page) : Type 0 where
+  pub window : is_window w.from w.end ≡ true
   pub lines : List Occurrence
-  pub agenda : IsAgenda os from end lines
+  pub agenda : IsAgenda os w.from w.end lines
   pub count : n ≡ length lines
-  pub page : Added (flat_map occurrence_line lines) o p l m
+  pub page : Puts (flat_map occurrence_line lines) p q
 
--- no agenda fits behind l
-abbrev pub NoneFits : List Occurrence → ℕ → ℕ → List ℕ → ℕ → Type 0
-NoneFits os from end o l = (k : List Occurrence) → IsAgenda os from end k → length o < l + length (flat_map occurrence_line k)
+-- no agenda fits behind what is written
+abbrev pub NoneFits : List Occurrence → Window → Page → Type 0
+NoneFits os w p = (k : List Occurrence) → IsAgenda os w.from w.end k → length p.octets.now < p.len + length (flat_map occurrence_line k)
 
 -- nothing was printed: 24 where there is no such window, else 23 where the lines do not fit
-pub record Refused (os : List Occurrence) (from end : ℕ) (o : List ℕ) (l m : ℕ) (e : Refusal) : Type 0 where
-  pub number : number_of e ≡ cond (is_window from end) 23 24
-  pub short : is_window from end ≡ true → NoneFits os from end o l
-  pub len : m ≡ l
+pub record Refused (os : List Occurrence) (w : Window) (p q : Page) (e : Refusal) : Type 0 where
+  pub number : number_of e ≡ cond (is_window w.from w.end) 23 24
+  pub short : is_window w.from w.end ≡ true → NoneFits os w p
+  pub len : q.len ≡ p.len
 
 -- nothing was printed, for want of nodes: 24 where there is no such window, else 23
-pub record Crowded (from end l m : ℕ) (e : Refusal) : Type 0 where
-  pub number : number_of e ≡ cond (is_window from end) 23 24
-  pub len : m ≡ l
+pub record Crowded (w : Window) (p q : Page) (e : Refusal) : Type 0 where
+  pub number : number_of e ≡ cond (is_window w.from w.end) 23 24
+  pub len : q.len ≡ p.len

@@ -1,38 +1,43 @@
 // Where the series of a store stand, each at its leaf.
-ghost use Rattle.std.specs.Prelude.{◌≡◌, ℕ, ◌+◌, ◌*◌, ◌<◌, ◌≤◌, length};
+ghost use Rattle.std.specs.Prelude.{◌*◌, ◌<◌, ◌≤◌, length};
 ghost use Rattle.merge.specs.Cursors.{Cursor, Stand};
 ghost use Rattle.merge.specs.Places.{ShowsAt};
+ghost use Rattle.upcoming.specs.Least.{Next};
 
+use calendar::windows::Window;
 use store::stores::Store;
 use tournament::nodes::Node;
+use upcoming::keys::Key;
 use upcoming::next::next_in;
 
-// Where the series at a place stands, from (start, day) on; past its last occurrence it stands at the end.
-pub(crate) fn cursor<St: Store>(store: &St, place: usize, start: u32, day: u32, end: u32) -> Node
-    ensures { Cursor (ShowsAt St.Source.Source.days (St.Store.pairs store.now) place) start day end place result }
+// The next occurrence that the series at a place shows, from a key on and before the end.
+fn next_at<St: Store>(store: &St, place: usize, from: Key, end: u32) -> Option<Key>
+    ensures { Next (ShowsAt St.Source.Source.days (St.Store.pairs store.now) place) from.start from.day end result }
 {
-    if let Some(pair) = store.at(place) {
-        if let Some(key) = next_in(&pair.series, start, day, end) {
-            return Node {
-                start: key.start,
-                place,
-                day: key.day,
-            };
-        }
-    }
-    Node {
-        start: end,
-        place,
-        day: 0,
-    }
+    let pair = store.at(place)?;
+    next_in(&pair.series, from, end)
+}
+
+// Where the series at a place stands, from a key on; past its last occurrence it stands at the end.
+// The end serves for none: every node has a start and a day, and one order ranks them all.
+pub(crate) fn cursor<St: Store>(store: &St, place: usize, from: Key, end: u32) -> Node
+    ensures { Cursor (ShowsAt St.Source.Source.days (St.Store.pairs store.now) place) from.start from.day end place result }
+{
+    let past = Key { start: end, day: 0 };
+    let Key { start, day } = next_at(store, place, from, end).unwrap_or(past);
+    Node { start, place, day }
 }
 
 // Seats each series at its leaf.
-pub(crate) fn seat<St: Store>(store: &St, nodes: &mut [Node], count: usize, from: u32, end: u32)
+pub(crate) fn seat<St: Store>(store: &St, nodes: &mut [Node], count: usize, window: Window)
     requires { 2 * count ≤ length nodes.old }
-    ensures stand { Stand (ShowsAt St.Source.Source.days (St.Store.pairs store.now)) from end count count nodes.new }
+    ensures { Stand (ShowsAt St.Source.Source.days (St.Store.pairs store.now)) window.from window.end count count nodes.new }
 {
-    for place in 0..count {
-        nodes[count + place] = cursor(store, place, from, 0, end);
+    let first = Key {
+        start: window.from,
+        day: 0,
+    };
+    for (place, leaf) in nodes[count..2 * count].iter_mut().enumerate() {
+        *leaf = cursor(store, place, first, window.end);
     }
 }

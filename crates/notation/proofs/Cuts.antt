@@ -1,33 +1,38 @@
 -- A text cut at the first octet of a kind, octet by octet.
-use Rattle.std.proofs.Common.{◌≡◌, ℕ, ◌+◌, ◌<◌, ◌≤◌, true, false, eqb, List, [], ◌∷◌, ◌++◌, length, get_or, take, drop, Some, None, Option, sym, refl, ap, ◌∙◌, ⊎_elim, arith}
+use Rattle.std.proofs.Common.{◌≡◌, ℕ, suc, ◌+◌, ◌-◌, eqb, List, [], ◌∷◌, ◌++◌, length, take, drop, position, Some, None, Option, refl, ap, ◌∙◌, ⊎_elim, arith}
 use Rattle.std.specs.Option.{option_map}
 use Rattle.std.specs.List.{AllByRecursion}
-use Rattle.std.proofs.lemmas.Bool.{eq-eqb, ne_eqb}
+use Rattle.std.proofs.lemmas.List.{take_rest}
+use Rattle.std.specs.List.{position_or_len}
+use Rattle.std.proofs.lemmas.Bool.{eq-eqb, ne_eqb, cases_lt, lt-ltb, le-ltb}
 use Rattle.std.proofs.lemmas.Bool.Decides.{eqb_tells}
-use Rattle.std.proofs.lemmas.List.{append-nil, append_assoc, at_drop_more, at_drop_all, take_more}
 use Rattle.notation.specs.Fields.{cut_at}
 
--- the first field behind what was passed
-abbrev pub behind : List ℕ → List ℕ × List ℕ → List ℕ × List ℕ
-behind a p = (a ++ p.0, p.1)
+-- a text is cut at the place of the first such octet
+cut_position : (x : ℕ) (xs : List ℕ) → cut_at x xs ≡ option_map (λ i. (take i xs, drop (i + 1) xs)) (position (λ y. eqb y x) xs)
+cut_position x [] = refl
+cut_position x (y ∷ ys) =
+    ⊎_elim
+    (λ t. rw (t.0, lt-ltb 0 (length (y ∷ ys)) (omega arith)) refl)
+    (λ f.
+    let k = position_or_len (λ y. eqb y x) ys in
+    let a : 1 + k ≡ suc k = omega arith in
+    let b : suc k + 1 ≡ suc (k + 1) = omega arith in
+    ⊎_elim
+    (λ l.
+    let e : cut_at x ys ≡ Some (take k ys, drop (k + 1) ys) = rw (lt-ltb k (length ys) l) at (cut_position x ys) in
+    rw (f.0, lt-ltb (1 + k) (length (y ∷ ys)) (omega arith), a, b, e) refl)
+    (λ g.
+    let e : cut_at x ys ≡ None = rw (le-ltb k (length ys) g) at (cut_position x ys) in
+    rw (f.0, le-ltb (1 + k) (length (y ∷ ys)) (omega arith), e) refl)
+    (cases_lt k (length ys)))
+    (eqb_tells y x)
 
-moved : (a : List ℕ) (y : ℕ) (o : Option (List ℕ × List ℕ)) → option_map (behind a) (option_map (λ p. (y ∷ p.0, p.1)) o) ≡ option_map (behind (a ++ y ∷ [])) o
-moved a y None = refl
-moved a y (Some p) = ap (λ (zs : List ℕ). Some (zs, p.1)) (sym (append_assoc a (y ∷ []) p.0))
+pub cut_missed : (x : ℕ) (xs : List ℕ) → position (λ y. eqb y x) xs ≡ None → cut_at x xs ≡ None
+cut_missed x xs e = cut_position x xs ∙ ap (option_map (λ i. (take i xs, drop (i + 1) xs))) e
 
-module _ (x : ℕ) (xs : List ℕ) (i : ℕ) where
-  pub cut_here : i < length xs → eqb (get_or xs i 0) x ≡ true → option_map (behind (take i xs)) (cut_at x (drop i xs)) ≡ Some (take i xs, drop (i + 1) xs)
-  cut_here h e =
-      ap (option_map (behind (take i xs))) (at_drop_more (cut_at x) xs i 0 h) ∙ rw e (ap (λ (zs : List ℕ). Some (zs, drop (i + 1) xs)) (append-nil (take i xs)))
-
-  pub cut_more : i < length xs → eqb (get_or xs i 0) x ≡ false → option_map (behind (take i xs)) (cut_at x (drop i xs)) ≡ option_map (behind (take (i + 1) xs)) (cut_at x (drop (i + 1) xs))
-  cut_more h e =
-      ap (option_map (behind (take i xs))) (at_drop_more (cut_at x) xs i 0 h)
-      ∙ rw e (moved (take i xs) (get_or xs i 0) (cut_at x (drop (i + 1) xs)))
-      ∙ ap (λ (zs : List ℕ). option_map (behind zs) (cut_at x (drop (i + 1) xs))) (sym (take_more xs i 0 h))
-
-  pub cut_none : length xs ≤ i → option_map (behind (take i xs)) (cut_at x (drop i xs)) ≡ None
-  cut_none h = ap (option_map (behind (take i xs))) (at_drop_all (cut_at x) xs i h)
+pub cut_there : (x : ℕ) (xs : List ℕ) (i : ℕ) → position (λ y. eqb y x) xs ≡ Some i → cut_at x xs ≡ Some (take i xs, take (length xs - (i + 1)) (drop (i + 1) xs))
+cut_there x xs i e = rw (take_rest xs (i + 1)) (cut_position x xs ∙ ap (option_map (λ i. (take i xs, drop (i + 1) xs))) e)
 
 -- what a cut gives puts together again
 pub cut_joins : (x : ℕ) (xs a b : List ℕ) → cut_at x xs ≡ Some (a, b) → xs ≡ a ++ (x ∷ b)

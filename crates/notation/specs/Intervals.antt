@@ -12,6 +12,11 @@ abbrev pub lettered : ℕ → List ℕ → Result ℕ Refusal
 lettered letter [] = Err Malformed
 lettered letter (x ∷ xs) = cond (x == letter) (number xs) (Err Malformed)
 
+-- any letter, then a number
+abbrev pub letter_number : List ℕ → Result (ℕ × ℕ) Refusal
+letter_number [] = Err Malformed
+letter_number (x ∷ xs) = and_then (number xs) (λ n. Ok (x, n))
+
 -- Rn
 abbrev pub repeat_named : List ℕ → Result ℕ Refusal
 repeat_named xs = lettered 82 xs

@@ -27,13 +27,8 @@ pub fn read_day(octets: &[u8]) -> Result<u32, Refusal>
     ensures value { result ≡ day_named octets.now }
     ensures bound { IfOk result (λ d. d ≤ last_day) }
 {
-    let Some(digits) = numeral_of(octets, 8, 8) else {
-        return Err(Refusal::Malformed);
-    };
-    let Some(day) = day_of(date_named(digits)) else {
-        return Err(Refusal::OutOfBounds);
-    };
-    Ok(day)
+    let digits = numeral_of(octets, 8, 8).ok_or(Refusal::Malformed)?;
+    day_of(date_named(digits)).ok_or(Refusal::OutOfBounds)
 }
 
 // The day and the minute that yyyymmddThhmm00 names.
@@ -44,12 +39,8 @@ pub fn read_moment(octets: &[u8]) -> Result<Moment, Refusal>
     let Some((date, time)) = cut(octets, 'T') else {
         return Err(Refusal::Malformed);
     };
-    let Some(digits) = numeral_of(date, 8, 8) else {
-        return Err(Refusal::Malformed);
-    };
-    let Some(clock) = numeral_of(time, 6, 6) else {
-        return Err(Refusal::Malformed);
-    };
+    let digits = numeral_of(date, 8, 8).ok_or(Refusal::Malformed)?;
+    let clock = numeral_of(time, 6, 6).ok_or(Refusal::Malformed)?;
     if clock % 100 != 0 {
         return Err(Refusal::Malformed);
     }
@@ -58,9 +49,7 @@ pub fn read_moment(octets: &[u8]) -> Result<Moment, Refusal>
     if hour > 23 || minute > 59 {
         return Err(Refusal::OutOfBounds);
     }
-    let Some(day) = day_of(date_named(digits)) else {
-        return Err(Refusal::OutOfBounds);
-    };
+    let day = day_of(date_named(digits)).ok_or(Refusal::OutOfBounds)?;
     Ok(Moment {
         day,
         clock: (hour * 60 + minute) as u16,

@@ -1,6 +1,6 @@
 // Intervals as Rn/yyyymmddThhmm00/PmD.
 ghost use Rattle.std.specs.Prelude.{◌≡◌, ℕ, ◌+◌, ◌<◌, ◌≤◌, IfOk};
-ghost use Rattle.notation.specs.Intervals.{repeat_named, period_named, interval_named};
+ghost use Rattle.notation.specs.Intervals.{letter_number, repeat_named, period_named, interval_named};
 ghost use Rattle.notation.specs.Spelling.{Spelling};
 
 use crate::dates::read_moment;
@@ -9,7 +9,7 @@ use crate::fields::{cut, first_rest};
 use calendar::starts::Moment;
 use refusal::Refusal;
 
-// What an interval's text says: so many times from a start on, every so many days.
+// What an interval's text says: so many times from a start on, every so many days. Nothing is bounded here, as it is in an interval.
 #[derive(Clone, Copy, PartialEq, Eq, Debug)]
 pub struct Spelled {
     pub count: u32,
@@ -17,15 +17,20 @@ pub struct Spelled {
     pub step: u32,
 }
 
+// A letter, then a number.
+fn read_lettered(octets: &[u8]) -> Result<(char, u32), Refusal>
+    ensures { result ≡ letter_number octets.now }
+{
+    let (letter, digits) = first_rest(octets).ok_or(Refusal::Malformed)?;
+    Ok((letter, number_of(digits)?))
+}
+
 // The count in Rn.
 fn read_repeat(octets: &[u8]) -> Result<u32, Refusal>
     ensures { result ≡ repeat_named octets.now }
 {
-    let Some((letter, digits)) = first_rest(octets) else {
-        return Err(Refusal::Malformed);
-    };
-    match letter {
-        'R' => number_of(digits),
+    match read_lettered(octets)? {
+        ('R', count) => Ok(count),
         _ => Err(Refusal::Malformed),
     }
 }
@@ -40,19 +45,11 @@ fn read_period(octets: &[u8]) -> Result<u32, Refusal>
     if !behind.is_empty() {
         return Err(Refusal::Malformed);
     }
-    let Some((letter, digits)) = first_rest(period) else {
-        return Err(Refusal::Malformed);
-    };
-    match letter {
-        'P' => number_of(digits),
+    match read_lettered(period)? {
+        ('P', step) => Ok(step),
         _ => Err(Refusal::Malformed),
     }
 }
-
-// That a text is read as an interval just where it spells one.
-fn spellings()
-    ensures { Spelling }
-{}
 
 // The parts of Rn/yyyymmddThhmm00/PmD: first the form of all, then whether there is such a start.
 pub fn read_interval(octets: &[u8]) -> Result<Spelled, Refusal>
@@ -60,7 +57,6 @@ pub fn read_interval(octets: &[u8]) -> Result<Spelled, Refusal>
     ensures bound { IfOk result (λ s. s.start.clock < 1440) }
     ensures spelled { Spelling }
 {
-    spellings();
     let Some((repeat, rest)) = cut(octets, '/') else {
         return Err(Refusal::Malformed);
     };

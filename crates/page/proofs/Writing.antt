@@ -1,8 +1,9 @@
 -- One piece behind another on a page.
-use Rattle.std.proofs.Common.{◌≡◌, ℕ, ◌+◌, ◌≤◌, List, [], ◌++◌, length, take, sym, ap, ◌∙◌, arith}
+use Rattle.std.proofs.Common.{◌≡◌, ℕ, ◌+◌, ◌≤◌, List, [], ◌++◌, length, take, sym, refl, ap, ◌∙◌, arith}
 use Rattle.std.proofs.lemmas.List.{append-nil, append_assoc, length-append}
 use Rattle.refusal.specs.declared.Refusal.{Refusal}
-use Rattle.page.specs.Pages.{Added, Full, Kept, Short}
+use Rattle.page.specs.declared.pages.Page.{Page}
+use Rattle.page.specs.Pages.{Kept, Added, Full, Short, Stays, Puts, Breaks}
 
 pub added_none : (o : List ℕ) (n : ℕ) → n ≤ length o → Added [] o o n n
 added_none o n h = record { room = omega arith; len = omega arith; octets = sym (append-nil (take n o)) }
@@ -19,6 +20,21 @@ added_more a b o p q n m l h s t =
 pub kept_more : (a o p q : List ℕ) (n m : ℕ) → Added a o p n m → Kept o p n → Kept p q m → Kept o q n
 kept_more a o p q n m s j k i h = k i (omega (arith, s.len)) ∙ j i h
 
+-- ---- over pages
+
+pub stays_none : {p : Page} → Stays p p
+stays_none = record { same = refl; long = refl; kept = λ k h. refl }
+
+module _ {p q : Page} (a : List ℕ) (s : Stays p q) (w : Puts a p q) where
+  pub stays_then : {r : Page} → Stays q r → Stays p r
+  stays_then {r} t = record { same = t.same ∙ s.same; long = t.long ∙ s.long; kept = kept_more a p.octets.now q.octets.now r.octets.now p.len q.len w s.kept t.kept }
+
+  pub puts_then : (r : Page) (b : List ℕ) → Puts b q r → Puts (a ++ b) p r
+  puts_then r b t = added_more a b p.octets.now q.octets.now r.octets.now p.len q.len r.len s.long w t
+
 -- what fails after a part fails as a whole
-pub short_more : (a b w o p : List ℕ) (n m l : ℕ) (e : Refusal) → length p ≡ length o → length a + length b ≤ length w → Added a o p n m → Full b p m l e → Short w o n e
-short_more a b w o p n m l e h g s t = record { short = omega (arith, s.len, t.short); number = t.number }
+pub breaks_then : {p q : Page} {e : Refusal} (a b w : List ℕ) → Stays p q → Puts a p q → length a + length b ≤ length w → Breaks b q e → Breaks w p e
+breaks_then a b w s t h l = record { short = omega (arith, s.long, t.len, l.short); number = l.number }
+
+pub breaks_full : {b o : List ℕ} {n m : ℕ} {e : Refusal} → Full b o n m e → Short b o n e
+breaks_full t = record { short = t.short; number = t.number }

@@ -1,18 +1,18 @@
 // Decimals, dates and clocks on a page.
-ghost use Rattle.std.specs.Prelude.{◌≡◌, ℕ, ◌+◌, ◌<◌, ◌≤◌, List, length, drop, decimal, MatchResult};
-ghost use Rattle.page.specs.Pages.{Added, Full, Kept};
-ghost use Rattle.page.specs.Lines.{date_text, clock_text};
+// By hand: `write!` says nothing of a write that is refused, and the contracts here do.
+ghost use Rattle.std.specs.Prelude.{◌≡◌, ◌<◌, drop, decimal, MatchResult};
+ghost use Rattle.page.specs.Pages.{Stays, Puts, Lacks};
+ghost use Rattle.page.specs.Lines.{date_text, clock_text, two};
 
-use crate::pages::put;
+use crate::pages::Page;
 use calendar::date::Date;
 use refusal::Refusal;
 
 // The most digits that a `usize` has.
 pub(crate) const DIGITS: usize = 20;
 
-// The digits of n, written at the end of a room of that many octets.
-pub(crate) fn decimal_in(digits: &mut [u8], n: usize) -> &[u8]
-    requires { length digits.old ≡ 20 }
+// The digits of n, written at the end of a room.
+pub(crate) fn decimal_in(digits: &mut [u8; DIGITS], n: usize) -> &[u8]
     ensures { result.now ≡ decimal n }
 {
     let at = fill_decimal(digits, n);
@@ -20,11 +20,11 @@ pub(crate) fn decimal_in(digits: &mut [u8], n: usize) -> &[u8]
 }
 
 // Writes the digits of n at the end of `digits`, and answers where they begin.
-fn fill_decimal(digits: &mut [u8], n: usize) -> usize
-    requires { length digits.old ≡ 20 }
+fn fill_decimal(digits: &mut [u8; DIGITS], n: usize) -> usize
     ensures within { result < 20 }
     ensures value { drop result digits.new ≡ decimal n }
 {
+    // from the last digit on: how many there are is known at the end
     let mut at = digits.len();
     let mut rest = n;
     loop {
@@ -37,60 +37,57 @@ fn fill_decimal(digits: &mut [u8], n: usize) -> usize
     }
 }
 
+// The last two digits of a number, with leading zeros.
+fn two_digits(n: u16) -> [u8; 2]
+    ensures { result ≡ two n }
+{
+    [b'0' + (n / 10 % 10) as u8, b'0' + (n % 10) as u8]
+}
+
 // The date as yyyymmdd.
+#[tactic(auto, unfolding(crate::specs::Lines::date_text))]
 pub(crate) fn date_octets(date: Date) -> [u8; 8]
     ensures { result ≡ date_text date }
 {
-    [
-        b'0' + (date.year / 1000 % 10) as u8,
-        b'0' + (date.year / 100 % 10) as u8,
-        b'0' + (date.year / 10 % 10) as u8,
-        b'0' + (date.year % 10) as u8,
-        b'0' + date.month / 10 % 10,
-        b'0' + date.month % 10,
-        b'0' + date.day / 10 % 10,
-        b'0' + date.day % 10,
-    ]
+    let [a, b] = two_digits(date.year / 100);
+    let [c, d] = two_digits(date.year);
+    let [e, f] = two_digits(date.month as u16);
+    let [g, h] = two_digits(date.day as u16);
+    [a, b, c, d, e, f, g, h]
 }
 
 // The clock as hhmm.
+#[tactic(auto, unfolding(crate::specs::Lines::clock_text))]
 pub(crate) fn clock_octets(clock: u16) -> [u8; 4]
     ensures { result ≡ clock_text clock }
 {
-    let hour = clock / 60;
-    let minute = clock % 60;
-    [
-        b'0' + (hour / 10 % 10) as u8,
-        b'0' + (hour % 10) as u8,
-        b'0' + (minute / 10 % 10) as u8,
-        b'0' + (minute % 10) as u8,
-    ]
+    let [a, b] = two_digits(clock / 60);
+    let [c, d] = two_digits(clock % 60);
+    [a, b, c, d]
 }
 
-// Adds a number without leading zeros.
-pub fn put_decimal(octets: &mut [u8], len: &mut usize, n: usize) -> Result<(), Refusal>
-    ensures kept { Kept octets.old octets.new len.old }
-    ensures cases { MatchResult result (λ _. Added (decimal n) octets.old octets.new len.old len.new) (λ e. Full (decimal n) octets.old len.old len.new e) }
-{
-    let mut digits = [0u8; DIGITS];
-    let piece = decimal_in(&mut digits, n);
-    put(octets, len, piece)
-}
+impl Page<'_> {
+    // Adds a number without leading zeros.
+    pub fn put_decimal(&mut self, n: usize) -> Result<(), Refusal>
+        ensures stays { Stays self.old self.new }
+        ensures cases { MatchResult result (λ _. Puts (decimal n) self.old self.new) (λ e. Lacks (decimal n) self.old self.new e) }
+    {
+        self.put(decimal_in(&mut [0; DIGITS], n))
+    }
 
-// Adds a date as yyyymmdd.
-pub fn put_date(octets: &mut [u8], len: &mut usize, date: Date) -> Result<(), Refusal>
-    ensures kept { Kept octets.old octets.new len.old }
-    ensures cases { MatchResult result (λ _. Added (date_text date) octets.old octets.new len.old len.new) (λ e. Full (date_text date) octets.old len.old len.new e) }
-{
-    let piece = date_octets(date);
-    put(octets, len, &piece)
-}
+    // Adds a date as yyyymmdd.
+    pub fn put_date(&mut self, date: Date) -> Result<(), Refusal>
+        ensures stays { Stays self.old self.new }
+        ensures cases { MatchResult result (λ _. Puts (date_text date) self.old self.new) (λ e. Lacks (date_text date) self.old self.new e) }
+    {
+        self.put(&date_octets(date))
+    }
 
-// Adds a minute of the day as hhmm.
-pub fn put_clock(octets: &mut [u8], len: &mut usize, clock: u16) -> Result<(), Refusal>
-    ensures kept { Kept octets.old octets.new len.old }
-    ensures cases { MatchResult result (λ _. Added (clock_text clock) octets.old octets.new len.old len.new) (λ e. Full (clock_text clock) octets.old len.old len.new e) }
-{
-    let piece = clock_octets(clock);
-    put(octets, len, &piece)
+    // Adds a minute of the day as hhmm.
+    pub fn put_clock(&mut self, clock: u16) -> Result<(), Refusal>
+        ensures stays { Stays self.old self.new }
+        ensures cases { MatchResult result (λ _. Puts (clock_text clock) self.old self.new) (λ e. Lacks (clock_text clock) self.old self.new e) }
+    {
+        self.put(&clock_octets(clock))
+    }
 }

@@ -1,4 +1,3 @@
-pub mod Entries
 pub mod Openings
 pub mod Periods
 pub mod Strides

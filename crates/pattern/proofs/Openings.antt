@@ -1,5 +1,5 @@
 -- The dates of days, and the first days of months.
-use Rattle.std.proofs.Common.{◌≡◌, ℕ, ◌+◌, ◌-◌, ◌<◌, ◌≤◌, true, leb, Some, None, refl, ap, ◌∙◌, subst, ⊎_elim, arith}
+use Rattle.std.proofs.Common.{◌≡◌, ℕ, ◌+◌, ◌-◌, ◌<◌, ◌≤◌, true, leb, Some, None, refl, ap, subst, ⊎_elim, arith}
 use Rattle.std.proofs.lemmas.Bool.{cases_Bool, and_from, le-leb}
 use Rattle.calendar.specs.declared.date.Date.{Date}
 use Rattle.calendar.specs.Years.{is_leap, year_start}
@@ -34,7 +34,7 @@ abbrev pub first_of : ℕ → ℕ → Date
 first_of y m = record { year = y; month = m; day = 1 }
 
 -- a month of the calendar has a first day
-first_is : (y m : ℕ) → 1900 ≤ y → y < 2200 → 1 ≤ m → m ≤ 12 → day_at (first_of y m) ≡ Some (year_start y + before (is_leap y) (m - 1))
+pub first_is : (y m : ℕ) → 1900 ≤ y → y < 2200 → 1 ≤ m → m ≤ 12 → day_at (first_of y m) ≡ Some (year_start y + before (is_leap y) (m - 1))
 unfolding day_of
 first_is y m a b l h =
     let i : IsDate (first_of y m) =
@@ -43,24 +43,9 @@ first_is y m a b l h =
     rw (date_is (first_of y m) i) (ap (λ k. Some k) e)
 
 -- past the calendar there is none
-first_past : (y m : ℕ) → 2200 ≤ y → day_at (first_of y m) ≡ None
+pub first_past : (y m : ℕ) → 2200 ≤ y → day_at (first_of y m) ≡ None
 first_past y m h =
     ⊎_elim (λ t. let i = is_a_date (first_of y m) t in absurd (omega (arith, i.year_high))) (λ f. rw f) (cases_Bool (is_date (first_of y m)))
-
-pub some_there : (y m r : ℕ) → 1900 ≤ y → y < 2200 → 1 ≤ m → m ≤ 12 → Some r ≡ day_at (first_of y m) → r ≡ year_start y + before (is_leap y) (m - 1)
-some_there y m r a b l h e = let f = first_is y m a b l h in let g : Some r ≡ Some (year_start y + before (is_leap y) (m - 1)) = e ∙ f in cc
-
-pub none_there : (y m : ℕ) → 1900 ≤ y → y < 2200 → 1 ≤ m → m ≤ 12 → None ≡ day_at (first_of y m) → 109573 ≡ year_start y + before (is_leap y) (m - 1)
-none_there y m a b l h e =
-    let g : None ≡ Some (year_start y + before (is_leap y) (m - 1)) = e ∙ first_is y m a b l h in
-    let z : ◌≡◌ {A = ℕ} 0 1 = cc in
-    absurd (omega arith)
-
-pub some_past : (y m r : ℕ) → 2200 ≤ y → Some r ≡ day_at (first_of y m) → r ≡ 109573
-some_past y m r h e =
-    let g : Some r ≡ None = e ∙ first_past y m h in
-    let z : ◌≡◌ {A = ℕ} 0 1 = cc in
-    absurd (omega arith)
 
 pub length_here : (y m r : ℕ) → 1 ≤ m → m ≤ 12 → length_at y m ≡ Some r → r ≡ month_length (is_leap y) m
 length_here y m r l h e =

@@ -1,5 +1,5 @@
 -- Periods and their first days.
-use Rattle.std.proofs.Common.{◌≡◌, ℕ, ◌+◌, ◌-◌, ◌*◌, ◌/◌, ◌%◌, ◌<◌, ◌≤◌, sym, refl, ap, ◌∙◌, subst, ⊎_elim, arith}
+use Rattle.std.proofs.Common.{◌≡◌, ℕ, ◌+◌, ◌-◌, ◌*◌, ◌/◌, ◌%◌, ◌<◌, ◌≤◌, Some, None, Option, sym, refl, ap, ◌∙◌, subst, ⊎_elim, arith}
 use Rattle.std.proofs.lemmas.Bool.{cases_lt, cases_Bool}
 use Rattle.calendar.specs.declared.date.Date.{Date}
 use Rattle.calendar.specs.Years.{is_leap, year_length, year_start, year_of}
@@ -11,7 +11,7 @@ use Rattle.calendar.proofs.Dating.{IsDate, dated, date_from}
 use Rattle.recurrence.specs.declared.parts.Frequency.{Frequency}
 use Rattle.recurrence.specs.declared.parts.Frequency.TheVariants.{Daily, Weekly, Monthly, Yearly}
 use Rattle.pattern.specs.Periods.{period}
-use Rattle.pattern.specs.Openings.{Opens, least, most}
+use Rattle.pattern.specs.Openings.{Opens, OpensIf, least, most}
 
 years_rise : (y z : ℕ) → 1900 ≤ y → y ≤ z → year_start y ≤ year_start z
 years_rise y z h l = ⊎_elim (λ (g : y < z). omega (arith, years_over y z h g)) (λ (g : z ≤ y). let e : y ≡ z = omega arith in rw e (omega arith)) (cases_lt y z)
@@ -126,24 +126,20 @@ rises Monthly w a b l h =
     from_opens Monthly w a b _ (opens_month w (period Monthly w a) ((period Monthly w a - 1) / 12) ((period Monthly w a - 1) % 12) refl refl (omega (arith, d.year.low, d.month.low))) l h
 rises Yearly w a b l h = from_opens Yearly w a b (year_start (year_of a)) (opens_year w (year_of a) (in_year a (omega arith)).low) l h
 
--- past the calendar a period has no first day
-opens_never : (f : Frequency) (w q r : ℕ) → 109573 ≤ r → ((k : ℕ) → k < 109573 → period f w k < q) → Opens f w q r
-opens_never f w q r h u = record { under = λ k b l. u k b; over = λ k b l. absurd (omega arith); is = λ l. absurd (omega arith) }
-
--- the first day of a month, as it is found: past the calendar where that has no such month
-pub month_opens : (w q y m r : ℕ) → y ≡ (q - 1) / 12 → m ≡ (q - 1) % 12 → 22801 ≤ q
-    → (y < 2200 → r ≡ year_start y + before (is_leap y) m) → (2200 ≤ y → r ≡ 109573) → Opens Monthly w q r
+-- the first day of a month, as it is found
+pub month_opens : (w q y m : ℕ) (r : Option ℕ) → y ≡ (q - 1) / 12 → m ≡ (q - 1) % 12 + 1 → 22801 ≤ q
+    → (y < 2200 → r ≡ Some (year_start y + before (is_leap y) (m - 1))) → (2200 ≤ y → r ≡ None) → OpensIf Monthly w q r
 month_opens w q y m r ey em h there past =
     ⊎_elim
-    (λ l. subst (λ (k : ℕ). Opens Monthly w q k) (sym (there l)) (opens_month w q y m ey em h))
-    (λ l. opens_never Monthly w q r (omega (arith, past l)) (λ k b. let d = dated k b in omega (arith, d.year.high, d.month.high)))
+    (λ l. subst (λ (o : Option ℕ). OpensIf Monthly w q o) (sym (there l)) (opens_month w q y (m - 1) ey (omega arith) h))
+    (λ l. subst (λ (o : Option ℕ). OpensIf Monthly w q o) (sym (past l)) (λ k b. let d = dated k b in omega (arith, d.year.high, d.month.high)))
     (cases_lt y 2200)
 
-pub year_opens : (w y r : ℕ) → 1900 ≤ y → (y < 2200 → r ≡ year_start y + before (is_leap y) (1 - 1)) → (2200 ≤ y → r ≡ 109573) → Opens Yearly w y r
+pub year_opens : (w y : ℕ) (r : Option ℕ) → 1900 ≤ y → (y < 2200 → r ≡ Some (year_start y + before (is_leap y) 0)) → (2200 ≤ y → r ≡ None) → OpensIf Yearly w y r
 year_opens w y r h there past =
     ⊎_elim
     (λ l.
-    let e : year_start y ≡ r = omega (arith, there l, before_none (is_leap y)) in
-    subst (λ (k : ℕ). Opens Yearly w y k) e (opens_year w y h))
-    (λ l. opens_never Yearly w y r (omega (arith, past l)) (λ k b. let i = in_year k b in omega (arith, i.high)))
+    let e : year_start y ≡ year_start y + before (is_leap y) 0 = omega (arith, before_none (is_leap y)) in
+    subst (λ (o : Option ℕ). OpensIf Yearly w y o) (ap (λ n. Some n) e ∙ sym (there l)) (opens_year w y h))
+    (λ l. subst (λ (o : Option ℕ). OpensIf Yearly w y o) (sym (past l)) (λ k b. let i = in_year k b in omega (arith, i.high)))
     (cases_lt y 2200)

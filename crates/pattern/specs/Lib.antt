@@ -1,4 +1,5 @@
 pub mod Periods
 pub mod Picks
+pub mod First
 pub mod Asked
 pub mod Openings

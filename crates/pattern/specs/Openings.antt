@@ -1,5 +1,5 @@
 -- Where a period begins.
-use Rattle.std.specs.Prelude.{◌≡◌, ℕ, ◌+◌, ◌<◌, ◌≤◌}
+use Rattle.std.specs.Prelude.{◌≡◌, ℕ, ◌+◌, ◌<◌, ◌≤◌, Option, MatchOption}
 use Rattle.calendar.specs.declared.date.Date.{Date}
 use Rattle.calendar.specs.Years.{is_leap, year_length, year_start, year_of}
 use Rattle.calendar.specs.Months.{month_length}
@@ -27,6 +27,10 @@ pub record Opens (f : Frequency) (w q r : ℕ) : Type 0 where
   pub under : (k : ℕ) → k < 109573 → k < r → period f w k < q
   pub over : (k : ℕ) → k < 109573 → r ≤ k → q ≤ period f w k
   pub is : r < 109573 → period f w r ≡ q
+
+-- the first day of the period q, if there is one: else all days lie before q
+abbrev pub OpensIf : Frequency → ℕ → ℕ → Option ℕ → Type 0
+OpensIf f w q r = MatchOption r ((k : ℕ) → k < 109573 → period f w k < q) (λ d. Opens f w q d)
 
 -- the numbers that a period may have here
 abbrev pub least : Frequency → ℕ

@@ -1,15 +1,16 @@
 -- The days that a pattern picks in its active periods.
-use Rattle.std.specs.Prelude.{ℕ, ◌+◌, ◌-◌, ◌/◌, ◌%◌, Bool, true, false, cond, not, ◌&&◌, ◌||◌, List, [], ◌∷◌, ◌==◌}
+use Rattle.std.specs.Prelude.{ℕ, ◌+◌, ◌-◌, ◌/◌, ◌%◌, Bool, true, false, cond, not, ◌&&◌, ◌||◌, Some, None, Option, ◌==◌}
+use Rattle.std.specs.List.{list_any}
 use Rattle.calendar.specs.Years.{year_length, year_of}
 use Rattle.calendar.specs.Months.{month_length}
 use Rattle.calendar.specs.Dates.{leap_of, year_day, month_of, month_day}
+use Rattle.calendar.specs.declared.weekdays.Weekday.{Weekday}
+use Rattle.calendar.specs.declared.weekdays.Weekday.TheVariants.{Monday, Tuesday, Wednesday, Thursday, Friday, Saturday, Sunday}
 use Rattle.calendar.specs.Weekdays.{weekday_number}
 use Rattle.recurrence.specs.declared.parts.Frequency.{Frequency}
 use Rattle.recurrence.specs.declared.parts.Frequency.TheVariants.{Daily, Weekly, Monthly, Yearly}
-use Rattle.recurrence.specs.declared.parts.MonthDay.{MonthDay}
-use Rattle.recurrence.specs.declared.parts.MonthDay.TheVariants as monthDays
 use Rattle.recurrence.specs.declared.parts.Ordinal.{Ordinal}
-use Rattle.recurrence.specs.declared.parts.Ordinal.TheVariants.{Every, FromStart, FromEnd}
+use Rattle.recurrence.specs.declared.parts.Ordinal.TheVariants.{FromStart, FromEnd}
 use Rattle.recurrence.specs.declared.parts.DayEntry.{DayEntry}
 use Rattle.recurrence.specs.declared.parts.Few.{Few}
 use Rattle.recurrence.specs.declared.parts.Pattern.{Pattern}
@@ -19,13 +20,9 @@ use Rattle.pattern.specs.Periods.{active}
 
 -- ---- lists of entries
 
-abbrev pub any : {X : Type 0} → (X → Bool) → List X → Bool
-any f [] = false
-any f (x ∷ xs) = f x || any f xs
-
 -- a part that is absent allows every day
 abbrev pub allows : {X : Type 0} → (X → Bool) → Few X → Bool
-allows f few = not (given few) || any f (entries few)
+allows f few = not (given few) || list_any f (entries few)
 
 -- ---- a day by its facts
 
@@ -36,13 +33,18 @@ lead month d = cond month (month_day d - 1) (year_day d)
 abbrev pub rest : Bool → ℕ → ℕ
 rest month d = cond month (month_length (leap_of d) (month_of d) - month_day d) (year_length (year_of d) - 1 - year_day d)
 
+-- the weekday with a number
+abbrev pub weekday_by : ℕ → Weekday
+weekday_by n =
+    cond (n == 0) Monday (cond (n == 1) Tuesday (cond (n == 2) Wednesday (cond (n == 3) Thursday (cond (n == 4) Friday (cond (n == 5) Saturday Sunday)))))
+
 -- the nth of its weekday from the beginning, and from the end
 abbrev pub facts : Bool → ℕ → Facts
 facts month d = record {
   month = month_of d;
   day = month_day d;
   back = month_length (leap_of d) (month_of d) - month_day d + 1;
-  weekday = d % 7;
+  weekday = weekday_by (d % 7);
   nth = lead month d / 7 + 1;
   last = rest month d / 7 + 1;
 }
@@ -59,17 +61,20 @@ in_month Yearly months = months
 abbrev pub at_month : Facts → ℕ → Bool
 at_month f m = f.month == m
 
-abbrev pub at_month_day : Facts → MonthDay → Bool
-at_month_day f (monthDays.FromStart n) = f.day == n
-at_month_day f (monthDays.FromEnd n) = f.back == n
+-- a place, by its numbers from the beginning and from the end
+abbrev pub at_place : ℕ → ℕ → Ordinal → Bool
+at_place nth last (FromStart n) = nth == n
+at_place nth last (FromEnd n) = last == n
 
-abbrev pub counts : Facts → Ordinal → Bool
-counts f Every = true
-counts f (FromStart n) = f.nth == n
-counts f (FromEnd n) = f.last == n
+abbrev pub at_month_day : Facts → Ordinal → Bool
+at_month_day f e = at_place f.day f.back e
+
+abbrev pub counts : Facts → Option Ordinal → Bool
+counts f None = true
+counts f (Some e) = at_place f.nth f.last e
 
 abbrev pub at_weekday : Facts → DayEntry → Bool
-at_weekday f e = f.weekday == weekday_number e.weekday && counts f e.ordinal
+at_weekday f e = weekday_number f.weekday == weekday_number e.weekday && counts f e.ordinal
 
 abbrev pub listed : Pattern → Facts → Bool
 listed p f = allows (at_month f) p.months

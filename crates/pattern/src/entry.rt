@@ -1,14 +1,13 @@
 // The entries of a pattern's lists: each passes or not at the facts of a day.
 ghost use Rattle.std.specs.Prelude.{◌≡◌, ◌≤◌, Bool};
-ghost use Rattle.calendar.specs.Weekdays.{weekday_number};
+ghost use Rattle.std.specs.List.{list_any};
 ghost use Rattle.pattern.specs.declared.facts.Facts.{Facts};
-ghost use Rattle.pattern.specs.Picks.{any, allows, at_month, at_month_day, at_weekday, counts};
+ghost use Rattle.pattern.specs.Picks.{allows, at_month, at_place, at_month_day, at_weekday};
 
 use crate::facts::Facts;
-use calendar::weekdays::Weekday;
-use recurrence::parts::{DayEntry, Few, MonthDay, Ordinal};
+use recurrence::parts::{DayEntry, Few, Ordinal};
 
-pub(crate) trait Entry {
+pub(crate) trait Entry: Copy {
     ghost test: { Facts → Self → Bool };
 
     fn passes(&self, facts: &Facts) -> bool
@@ -23,40 +22,21 @@ impl Entry for u8 {
     }
 }
 
-impl Entry for MonthDay {
+// Whether a place is the one that an ordinal counts, given its numbers from the beginning and from the end.
+fn is_at(nth: u8, last: u8, ordinal: Ordinal) -> bool
+    ensures { result ≡ at_place nth last ordinal }
+{
+    match ordinal {
+        Ordinal::FromStart(n) => nth == n,
+        Ordinal::FromEnd(n) => last == n,
+    }
+}
+
+impl Entry for Ordinal {
     ghost test = { λ f e. at_month_day f e };
 
     fn passes(&self, facts: &Facts) -> bool {
-        match *self {
-            MonthDay::FromStart(n) => facts.day == n,
-            MonthDay::FromEnd(n) => facts.back == n,
-        }
-    }
-}
-
-// A weekday's number, from Monday.
-pub(crate) fn number_of(weekday: Weekday) -> u8
-    ensures value { result ≡ weekday_number weekday }
-    ensures bound { result ≤ 6 }
-{
-    match weekday {
-        Weekday::Monday => 0,
-        Weekday::Tuesday => 1,
-        Weekday::Wednesday => 2,
-        Weekday::Thursday => 3,
-        Weekday::Friday => 4,
-        Weekday::Saturday => 5,
-        Weekday::Sunday => 6,
-    }
-}
-
-fn is_ordinal(facts: &Facts, ordinal: Ordinal) -> bool
-    ensures { result ≡ counts facts.now ordinal }
-{
-    match ordinal {
-        Ordinal::Every => true,
-        Ordinal::FromStart(n) => facts.nth == n,
-        Ordinal::FromEnd(n) => facts.last == n,
+        is_at(facts.day, facts.back, *self)
     }
 }
 
@@ -64,33 +44,20 @@ impl Entry for DayEntry {
     ghost test = { λ f e. at_weekday f e };
 
     fn passes(&self, facts: &Facts) -> bool {
-        if facts.weekday != number_of(self.weekday) {
-            return false;
-        }
-        is_ordinal(facts, self.ordinal)
+        facts.weekday == self.weekday
+            && self.ordinal.is_none_or(|n| is_at(facts.nth, facts.last, n))
     }
 }
 
-// Some entry passes.
-pub(crate) fn any_passes<T: Entry>(list: &[T], facts: &Facts) -> bool
-    ensures { result ≡ any (T.Entry.test facts.now) list.now }
+fn any_passes<T: Entry>(list: &[T], facts: &Facts) -> bool
+    ensures { result ≡ list_any (T.Entry.test facts.now) list.now }
 {
-    for e in list {
-        if e.passes(facts) {
-            return true;
-        }
-    }
-    false
+    list.iter().any(|e| e.passes(facts))
 }
 
 // The part is absent, or some entry passes.
 pub(crate) fn allowed<T: Entry>(few: &Few<T>, facts: &Facts) -> bool
-    requires { few.now.len ≤ 12 }
     ensures { result ≡ allows (T.Entry.test facts.now) few.now }
 {
-    if few.len == 0 {
-        return true;
-    }
-    let items = &few.items[..];
-    any_passes(&items[0..few.len], facts)
+    few.is_empty() || any_passes(few.as_slice(), facts)
 }

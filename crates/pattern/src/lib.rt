@@ -1,8 +1,11 @@
 // Which days a recurrence picks: its periods, and the days picked in them.
 #![tactic(auto)]
 
+mod dated;
 mod entry;
 mod facts;
 mod jumps;
+mod period;
 mod picking;
 pub mod scan;
+mod started;

@@ -1,74 +1,62 @@
 // The picked days, from one to the next.
-ghost use Rattle.std.specs.Prelude.{◌≡◌, ℕ, ◌<◌, ◌≤◌, true, false};
+ghost use Rattle.std.specs.Prelude.{◌≡◌, ◌<◌, ◌≤◌, true, None, MatchOption};
 ghost use Rattle.pattern.specs.Picks.{picked, picks};
-ghost use Rattle.pattern.specs.Asked.{Usable, Asked};
+ghost use Rattle.pattern.specs.First.{NoneIn, FirstIs, First};
+ghost use Rattle.pattern.specs.Asked.{Asked};
 
-use crate::jumps::{next_active, next_month};
-use crate::picking::{facts_of, in_month, is_picked, month_shut};
+use crate::jumps::month_end;
+use crate::started::Started;
 use calendar::days::LAST_DAY;
 use recurrence::parts::Pattern;
 
-// What the look at a day asks of the parts.
-fn is_usable(pattern: &Pattern) -> bool
-    ensures yes { result ≡ true → Usable pattern.now }
-    ensures no { Usable pattern.now → result ≡ true }
-{
-    1 <= pattern.interval
-        && pattern.interval <= 999
-        && pattern.months.len <= 12
-        && pattern.month_days.len <= 12
-        && pattern.week_days.len <= 12
-}
-
-// The day, if it is picked, else a later one, before which none is picked: a month with no such day is passed at once.
-fn look(pattern: &Pattern, start: u32, day: u32) -> u32
-    requires { (start < 109573) × ((day < 109573) × (Usable pattern.now)) }
-    ensures range { (day ≤ result) × (result ≤ 109573) }
-    ensures passed { (k : ℕ) → day ≤ k → k < result → picked pattern.now start k ≡ false }
-    ensures found { result ≡ day → picked pattern.now start day ≡ true }
-{
-    let seen = facts_of(in_month(pattern), day);
-    if month_shut(pattern, start, &seen) {
-        return next_month(day);
-    }
-    if is_picked(pattern, start, day, &seen) {
-        day
-    } else {
-        day + 1
-    }
-}
-
-// The first picked day from `from` on, before `end`, or `end`. Days of idle periods are passed at once.
-fn seek(pattern: &Pattern, start: u32, from: u32, end: u32) -> u32
-    requires { (start < 109573) × ((from ≤ end) × ((end ≤ 109573) × (Usable pattern.now))) }
-    ensures range { (from ≤ result) × (result ≤ end) }
-    ensures passed { (k : ℕ) → from ≤ k → k < result → picks pattern.now start k ≡ false }
-    ensures found { result < end → picks pattern.now start result ≡ true }
-{
-    let mut day = from;
-    while day < end {
-        let near = next_active(pattern, start, day);
-        if near >= end {
-            return end;
+impl Started<'_> {
+    // None if the day is picked, else a later one, before which none is picked: a month with no such day is passed
+    // at once.
+    fn skip(self, day: u32) -> Option<u32>
+        requires { day < 109573 }
+        ensures { MatchOption result (picked self.entry.pattern.now self.entry.start day ≡ true) (λ next. (day < next) × NoneIn (picked self.entry.pattern.now self.entry.start) day next) }
+    {
+        let seen = self.facts_of(day);
+        if self.month_shut(&seen) {
+            return Some(month_end(day));
         }
-        let next = look(pattern, start, near);
-        if next == near {
-            return near;
+        if self.is_picked(day, &seen) {
+            None
+        } else {
+            Some(day + 1)
         }
-        day = next.min(end);
     }
-    end
+
+    // The first picked day from `from` on, before `end`. Days of idle periods are passed at once.
+    #[tactic(auto, using(crate::proofs::Ahead::idle, crate::proofs::Ahead::left_out, crate::proofs::Ahead::taken_in))]
+    fn seek(self, from: u32, end: u32) -> Option<u32>
+        requires { end ≤ 109573 }
+        ensures { First (picks self.entry.pattern.now self.entry.start) from end result }
+    {
+        // days are passed by months and periods: no index is counted
+        let mut day = from;
+        while day < end {
+            let near = self.next_active(day)?;
+            if near >= end {
+                return None;
+            }
+            let Some(next) = self.skip(near) else {
+                return Some(near);
+            };
+            day = next;
+        }
+        None
+    }
 }
 
-// The first picked day from `from` on, before `end`, or `end`; `end` too where too much is asked.
-pub fn next_picked(pattern: &Pattern, start: u32, from: u32, end: u32) -> u32
-    ensures range { (result ≤ end) × (from ≤ end → from ≤ result) }
-    ensures passed { Asked pattern.now start from end → (k : ℕ) → from ≤ k → k < result → picks pattern.now start k ≡ false }
-    ensures found { result < end → picks pattern.now start result ≡ true }
-    ensures unasked { (Asked pattern.now start from end → ⊥) → result ≡ end }
+// The first picked day from `from` on, before `end`; none where too much is asked.
+// Two numbers and no range: `from` moves from call to call, and the end stays.
+pub fn next_picked(pattern: &Pattern, start: u32, from: u32, end: u32) -> Option<u32>
+    ensures first { MatchOption result (Asked pattern.now start from end → NoneIn (picks pattern.now start) from end) (λ d. Asked pattern.now start from end × FirstIs (picks pattern.now start) from end d) }
+    ensures unasked { (Asked pattern.now start from end → ⊥) → result ≡ None }
 {
-    if start > LAST_DAY || end > LAST_DAY + 1 || from > end || !is_usable(pattern) {
-        return end;
+    if from > end || end > LAST_DAY + 1 {
+        return None;
     }
-    seek(pattern, start, from, end)
+    Started::new(pattern, start)?.seek(from, end)
 }

@@ -1,5 +1,5 @@
 -- The entries of a part.
-use Rattle.std.specs.Prelude.{Bool, true, not, ◌&&◌, List, [], ◌∷◌, take, ◌==◌}
+use Rattle.std.specs.Prelude.{Bool, not, List, replicate, take, ◌==◌}
 use Rattle.recurrence.specs.declared.parts.Few.{Few}
 
 abbrev pub entries : {X : Type 0} → Few X → List X
@@ -9,6 +9,6 @@ entries few = take few.len few.items
 abbrev pub given : {X : Type 0} → Few X → Bool
 given few = not (few.len == 0)
 
-abbrev pub all : {X : Type 0} → (X → Bool) → List X → Bool
-all f [] = true
-all f (x ∷ xs) = f x && all f xs
+-- no entries
+abbrev pub none : {X : Type 0} → X → Few X
+none x = record { items = replicate 12 x; len = 0 }

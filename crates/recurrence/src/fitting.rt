@@ -1,122 +1,71 @@
 // The bounds of the parts, and which may stand together.
-ghost use Rattle.std.specs.Prelude.{◌≡◌, Bool, true};
-ghost use Rattle.recurrence.specs.Entries.{entries, all};
-ghost use Rattle.recurrence.specs.Bounds.{few_fit, month_fits, month_day_fits, ordinal_fits, day_entry_fits, plain, pattern_fits, suits};
+ghost use Rattle.std.specs.Prelude.{◌≡◌, Bool};
+ghost use Rattle.std.specs.List.{list_all};
+ghost use Rattle.recurrence.specs.Entries.{entries};
+ghost use Rattle.recurrence.specs.Bounds.{number, month_fits, month_day_fits, day_entry_fits, few_fit, plain, pattern_fits, suits};
 
-use crate::parts::{DayEntry, Few, Frequency, MonthDay, Ordinal, Pattern};
+use crate::parts::{DayEntry, Few, Frequency, Ordinal, Pattern};
 
-trait Entry {
+trait Entry: Copy {
     ghost bounds: { Self → Bool };
-
-    ghost simple: { Self → Bool };
 
     fn fits(&self) -> bool
         ensures { result ≡ bounds self.now };
-
-    // It has no ordinal.
-    fn is_plain(&self) -> bool
-        ensures { result ≡ simple self.now };
 }
 
 impl Entry for u8 {
     ghost bounds = { λ m. month_fits m };
 
-    ghost simple = { λ m. true };
-
     fn fits(&self) -> bool {
-        1 <= *self && *self <= 12
-    }
-
-    fn is_plain(&self) -> bool {
-        true
+        (1..=12).contains(self)
     }
 }
 
-impl Entry for MonthDay {
-    ghost bounds = { λ e. month_day_fits e };
-
-    ghost simple = { λ e. true };
-
-    fn fits(&self) -> bool {
-        match *self {
-            MonthDay::FromStart(n) => 1 <= n && n <= 31,
-            MonthDay::FromEnd(n) => 1 <= n && n <= 31,
+impl Ordinal {
+    fn number(self) -> u8
+        ensures { result ≡ number self }
+    {
+        match self {
+            Ordinal::FromStart(n) | Ordinal::FromEnd(n) => n,
         }
     }
-
-    fn is_plain(&self) -> bool {
-        true
-    }
 }
 
-fn ordinal_fits(ordinal: Ordinal) -> bool
-    ensures { result ≡ ordinal_fits ordinal }
-{
-    match ordinal {
-        Ordinal::Every => true,
-        Ordinal::FromStart(n) => 1 <= n && n <= 53,
-        Ordinal::FromEnd(n) => 1 <= n && n <= 53,
+impl Entry for Ordinal {
+    ghost bounds = { λ e. month_day_fits e };
+
+    fn fits(&self) -> bool {
+        (1..=31).contains(&self.number())
     }
 }
 
 impl Entry for DayEntry {
     ghost bounds = { λ e. day_entry_fits e };
 
-    ghost simple = { λ e. plain e };
-
     fn fits(&self) -> bool {
-        ordinal_fits(self.ordinal)
-    }
-
-    fn is_plain(&self) -> bool {
-        match self.ordinal {
-            Ordinal::Every => true,
-            Ordinal::FromStart(_) => false,
-            Ordinal::FromEnd(_) => false,
-        }
+        self.ordinal.is_none_or(|n| (1..=53).contains(&n.number()))
     }
 }
 
-// Every entry is in its bounds.
+// Each entry is in its bounds.
 fn each_fits<T: Entry>(list: &[T]) -> bool
-    ensures { result ≡ all T.Entry.bounds list.now }
+    ensures { result ≡ list_all T.Entry.bounds list.now }
 {
-    for e in list {
-        if !e.fits() {
-            return false;
-        }
-    }
-    true
+    list.iter().all(|e| e.fits())
 }
 
 // At most 12 entries, each in its bounds.
 fn few_fit<T: Entry>(few: &Few<T>) -> bool
     ensures { result ≡ few_fit T.Entry.bounds few.now }
 {
-    if few.len > 12 {
-        return false;
-    }
-    let items = &few.items[..];
-    each_fits(&items[0..few.len])
+    few.len <= 12 && each_fits(few.as_slice())
 }
 
 // No entry has an ordinal.
-fn each_plain<T: Entry>(list: &[T]) -> bool
-    ensures { result ≡ all T.Entry.simple list.now }
+fn all_plain(few: &Few<DayEntry>) -> bool
+    ensures { result ≡ list_all plain (entries few.now) }
 {
-    for e in list {
-        if !e.is_plain() {
-            return false;
-        }
-    }
-    true
-}
-
-fn few_plain<T: Entry>(few: &Few<T>) -> bool
-    ensures { result ≡ all T.Entry.simple (entries few.now) }
-{
-    let items = &few.items[..];
-    each_plain(&items[0..few.len.min(12)])
+    few.as_slice().iter().all(|e| e.ordinal.is_none())
 }
 
 impl Pattern {
@@ -124,8 +73,7 @@ impl Pattern {
     pub fn fits(&self) -> bool
         ensures { result ≡ pattern_fits self.now }
     {
-        1 <= self.interval
-            && self.interval <= 999
+        (1..=999).contains(&self.interval)
             && few_fit(&self.months)
             && few_fit(&self.month_days)
             && few_fit(&self.week_days)
@@ -136,10 +84,9 @@ impl Pattern {
         ensures { result ≡ suits self.now.frequency self.now.month_days self.now.week_days }
     {
         match self.frequency {
-            Frequency::Daily => few_plain(&self.week_days),
-            Frequency::Weekly => few_plain(&self.week_days) && self.month_days.len == 0,
-            Frequency::Monthly => true,
-            Frequency::Yearly => true,
+            Frequency::Daily => all_plain(&self.week_days),
+            Frequency::Weekly => all_plain(&self.week_days) && self.month_days.is_empty(),
+            Frequency::Monthly | Frequency::Yearly => true,
         }
     }
 }

@@ -10,56 +10,45 @@ pub enum Frequency {
     Yearly,
 }
 
-// An entry of BYMONTHDAY: a day of a month, counted from its beginning or its end.
-#[derive(Clone, Copy, PartialEq, Eq, Debug)]
-pub enum MonthDay {
-    FromStart(u8),
-    FromEnd(u8),
-}
-
-// Which of the like weekdays of a month or a year.
+// A place in a month or a year, counted from its beginning or its end: an entry of BYMONTHDAY counts days,
+// and one of BYDAY the like weekdays.
 #[derive(Clone, Copy, PartialEq, Eq, Debug)]
 pub enum Ordinal {
-    Every,
     FromStart(u8),
     FromEnd(u8),
 }
 
-// An entry of BYDAY.
+// An entry of BYDAY; without an ordinal it means every such weekday.
 #[derive(Clone, Copy, PartialEq, Eq)]
 pub struct DayEntry {
     pub weekday: Weekday,
-    pub ordinal: Ordinal,
+    pub ordinal: Option<Ordinal>,
 }
 
 // The first `len` items are the entries, in the order given; there are none where the part is absent.
-// The items after them mean nothing, so that `==` is not derived.
+// The items after them mean nothing, so that `==` is not derived. A plain value, unchecked: `fits` refuses a length
+// above 12.
 #[derive(Clone, Copy)]
 pub struct Few<T> {
     pub items: [T; 12],
     pub len: usize,
 }
 
-// A recurrence as it is read, with nothing checked. `until` is the day after the last day.
-#[derive(Clone, Copy)]
-pub struct Recurrence {
-    pub frequency: Frequency,
-    pub interval: u32,
-    pub week_start: Weekday,
-    pub count: Option<u32>,
-    pub until: Option<u32>,
-    pub months: Few<u8>,
-    pub month_days: Few<MonthDay>,
-    pub week_days: Few<DayEntry>,
-}
-
-// What says which days are picked: a recurrence less its ends.
+// What says which days are picked.
 #[derive(Clone, Copy)]
 pub struct Pattern {
     pub frequency: Frequency,
     pub interval: u32,
     pub week_start: Weekday,
     pub months: Few<u8>,
-    pub month_days: Few<MonthDay>,
+    pub month_days: Few<Ordinal>,
     pub week_days: Few<DayEntry>,
+}
+
+// A recurrence as it is read, with nothing checked: a pattern and its ends. `until` is the day after the last day.
+#[derive(Clone, Copy)]
+pub struct Recurrence {
+    pub pattern: Pattern,
+    pub count: Option<u32>,
+    pub until: Option<u32>,
 }

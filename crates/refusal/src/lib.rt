@@ -5,34 +5,36 @@ ghost use Rattle.std.specs.Prelude.{◌≡◌, ℕ};
 ghost use Rattle.refusal.specs.Numbers.{number as number_of};
 ghost use Rattle.refusal.specs.declared.Refusal.{Refusal as AnyRefusal};
 
+use std::fmt;
+
 #[derive(Clone, Copy, PartialEq, Eq, Debug)]
 pub enum Refusal {
     // a text has not the form that is asked for
-    Malformed,
+    Malformed = 7,
     // a value is out of bounds
-    OutOfBounds,
+    OutOfBounds = 8,
     // a part of a rule is unknown, repeated or malformed, or FREQ is absent
-    BadPart,
+    BadPart = 9,
     // parts of a rule that may not stand together
-    RuleConflict,
+    RuleConflict = 10,
     // the start of a rule is not among its days
-    StartNotPicked,
+    StartNotPicked = 11,
     // the UID is there already
-    UidPresent,
+    UidPresent = 12,
     // the UID is held by a draft
-    UidHeld,
+    UidHeld = 14,
     // the store has no room for another UID
-    StoreFull,
+    StoreFull = 15,
     // the day is not one of the source's
-    OffSource,
+    OffSource = 17,
     // the page has no room left, or its length lies past its end
-    PageFull,
+    PageFull = 23,
     // a window ends before it begins, or past the last start
-    BadWindow,
+    BadWindow = 24,
     // the source has no day
-    EmptySource,
+    EmptySource = 25,
     // the undo log has too few places
-    ShortUndoLog,
+    ShortUndoLog = 26,
 }
 
 impl Refusal {
@@ -41,26 +43,14 @@ impl Refusal {
         ensures value { result ≡ number_of self }
         ensures alone { (e : AnyRefusal) → number_of e ≡ result → e ≡ self }
     {
-        match self {
-            Refusal::Malformed => 7,
-            Refusal::OutOfBounds => 8,
-            Refusal::BadPart => 9,
-            Refusal::RuleConflict => 10,
-            Refusal::StartNotPicked => 11,
-            Refusal::UidPresent => 12,
-            Refusal::UidHeld => 14,
-            Refusal::StoreFull => 15,
-            Refusal::OffSource => 17,
-            Refusal::PageFull => 23,
-            Refusal::BadWindow => 24,
-            Refusal::EmptySource => 25,
-            Refusal::ShortUndoLog => 26,
-        }
+        self as u8
     }
+}
 
-    // What is wrong, as a sentence for a person.
-    pub fn sentence(self) -> &'static str {
-        match self {
+// What is wrong, as a sentence for a person.
+impl fmt::Display for Refusal {
+    fn fmt<W: fmt::Write>(&self, f: &mut fmt::Formatter<W>) -> fmt::Result {
+        f.write_str(match *self {
             Refusal::Malformed => "the text has not the form that is asked for",
             Refusal::OutOfBounds => "a value is out of bounds",
             Refusal::BadPart =>
@@ -75,6 +65,6 @@ impl Refusal {
             Refusal::BadWindow => "the window ends before it begins, or past the last day",
             Refusal::EmptySource => "the series has no day",
             Refusal::ShortUndoLog => "the undo log has fewer than 16 places",
-        }
+        })
     }
 }

@@ -1,10 +1,11 @@
 -- COUNT after a cut: no more than before, and never beside a last day but where no day is left.
-use Rattle.std.proofs.Common.{◌≡◌, ℕ, zero, suc, ◌<◌, ◌≤◌, Bool, true, List, [], ◌∷◌, length, take, is_some, Some, None, Option, sym, refl, ap, ⊎_elim, arith, length-append}
-use Rattle.std.proofs.lemmas.Bool.{cases_lt, true≢false, leb-true, le-leb, eqb-true, eq-eqb}
+use Rattle.std.proofs.Common.{◌≡◌, ℕ, zero, suc, ◌<◌, ◌≤◌, Bool, true, List, [], ◌∷◌, length, take, Some, None, Option, refl, ap, ⊎_elim, arith, length-append}
+use Rattle.std.proofs.lemmas.Bool.{cases_lt, leb-true, le-leb, eqb-true, eq-eqb}
 use Rattle.recurrence.specs.declared.parts.Pattern.{Pattern}
 use Rattle.rule.specs.Spans.{span, stop}
 use Rattle.rule.specs.Lists.{chooses, days_of}
 use Rattle.rule.specs.Bounds.{count_fits, one_end}
+use Rattle.rule.specs.Cut.{recount, lowered, reuntil}
 use Rattle.rule.specs.SpansLemmas.{split, void}
 
 few_taken : (k : ℕ) (xs : List ℕ) → length (take k xs) ≤ k
@@ -33,15 +34,19 @@ pub listed_few : (p : Option Pattern) (s : ℕ) (u c : Option ℕ) (e n : ℕ) �
 listed_few p s u None e n settled h = tt
 listed_few p s u (Some k) e n settled h = omega (arith, ap length settled, few_taken k (span (chooses p s) s (stop u)))
 
-pub count_few : (c : Option ℕ) (n : ℕ) → is_some c ≡ true → count_fits c ≡ true → AtMost c n → count_fits (Some n) ≡ true
-count_few None n t f a = absurd (true≢false (sym t))
-count_few (Some k) n t f a = le-leb n 10000 (omega (arith, leb-true k 10000 f))
+pub count_few : (c : Option ℕ) (xs : List ℕ) → count_fits c ≡ true → AtMost c (length xs) → count_fits (recount c xs) ≡ true
+count_few None xs f a = refl
+count_few (Some k) xs f a = le-leb (length xs) 10000 (omega (arith, leb-true k 10000 f))
 
-pub is_one_end : (u c : Option ℕ) (n : ℕ) → is_some c ≡ true → one_end u c ≡ true → AtMost c n → one_end u (Some n) ≡ true
-is_one_end None c n t o a = refl
-is_one_end (Some d) None n t o a = absurd (true≢false (sym t))
-is_one_end (Some d) (Some k) n t o a = eq-eqb n 0 (omega (arith, eqb-true k 0 o))
+pub tail_end : (u c : Option ℕ) (xs : List ℕ) → one_end u c ≡ true → AtMost c (length xs) → one_end u (recount c xs) ≡ true
+tail_end None c xs o a = refl
+tail_end (Some d) None xs o a = refl
+tail_end (Some d) (Some k) xs o a = eq-eqb (length xs) 0 (omega (arith, eqb-true k 0 o))
 
-pub open_end : (u : Option ℕ) → one_end u None ≡ true
+open_end : (u : Option ℕ) → one_end u None ≡ true
 open_end None = refl
 open_end (Some d) = refl
+
+pub head_end : (u c : Option ℕ) (d : ℕ) (xs : List ℕ) → one_end u c ≡ true → AtMost c (length xs) → one_end (reuntil c u d) (recount c xs) ≡ true
+head_end u None d xs o a = open_end (lowered u d)
+head_end u (Some k) d xs o a = tail_end u (Some k) xs o a

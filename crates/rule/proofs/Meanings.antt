@@ -1,7 +1,7 @@
 -- The days of a rule's list are the days that are meant.
 use Rattle.std.proofs.Common.{◌≡◌, ℕ, zero, suc, ◌+◌, ◌-◌, ◌*◌, ◌/◌, ◌%◌, ◌<◌, ◌≤◌, Bool, true, false, ◌||◌, eqb, ltb, List, [], ◌∷◌, ◌++◌, length, take, Some, None, Option, sym, refl, ap, ◌∙◌, subst, ⊎_elim, le_trans, add-mul, div-add-mod', le-div_iff_mul-le, div-mul-le_self, arith}
 use native.Mathlib.Nat.{add-mul-mod_self_right}
-use Rattle.std.specs.List.{AllByRecursion}
+use Rattle.std.specs.List.{AllByRecursion, list_any}
 use Rattle.std.proofs.ByRecursion.{All-weaker}
 use Rattle.std.proofs.lemmas.Bool.Decides.{eqb_tells}
 use Rattle.std.proofs.lemmas.Bool.{cases_lt, cases_Bool, and_parts, and_from, or_left, or_right, eqb-true, eq-eqb, lt-ltb, le-ltb}
@@ -12,7 +12,7 @@ use Rattle.recurrence.specs.declared.parts.Pattern.{Pattern}
 use Rattle.rule.specs.declared.rules.Rule.{Rule}
 use Rattle.rule.specs.Spans.{chosen, span, limited, stop}
 use Rattle.pattern.specs.Periods.{period_in, active}
-use Rattle.pattern.specs.Picks.{any, picked, picks}
+use Rattle.pattern.specs.Picks.{picked, picks}
 use Rattle.rule.specs.Lists.{chooses}
 use Rattle.rule.specs.Bounds.{sound}
 use Rattle.rule.specs.Cut.{days_in}
@@ -27,7 +27,7 @@ use Rattle.rule.proofs.Refusals.{all_limited}
 
 among_all : (P : ℕ → Type 0) (d : ℕ) (xs : List ℕ) → AllByRecursion P xs → among d xs ≡ true → P d
 unfolding among
-among_all P d [] a t = let z : ◌≡◌ {A = ℕ} 0 1 = cc in absurd (omega arith)
+among_all P d [] a t = cc
 among_all P d (x ∷ xs) a t =
     ⊎_elim
     (λ e. subst P e.1 a.0)
@@ -36,20 +36,20 @@ among_all P d (x ∷ xs) a t =
 
 among_after : (d : ℕ) (xs ys : List ℕ) → among d (xs ++ d ∷ ys) ≡ true
 unfolding among
-among_after d [] ys = or_left (eqb d d) (any (λ y. eqb y d) ys) (eq-eqb d d refl)
-among_after d (x ∷ xs) ys = or_right (eqb x d) (any (λ y. eqb y d) (xs ++ d ∷ ys)) (among_after d xs ys)
+among_after d [] ys = or_left (eqb d d) (list_any (λ y. eqb y d) ys) (eq-eqb d d refl)
+among_after d (x ∷ xs) ys = or_right (eqb x d) (list_any (λ y. eqb y d) (xs ++ d ∷ ys)) (among_after d xs ys)
 
 among_none : (d : ℕ) → among d [] ≡ true → ⊥
 unfolding among
-among_none d t = let z : ◌≡◌ {A = ℕ} 0 1 = cc in omega arith
+among_none d t = cc
 
 among_here : (d x : ℕ) (xs : List ℕ) → x ≡ d → among d (x ∷ xs) ≡ true
 unfolding among
-among_here d x xs e = or_left (eqb x d) (any (λ y. eqb y d) xs) (eq-eqb x d e)
+among_here d x xs e = or_left (eqb x d) (list_any (λ y. eqb y d) xs) (eq-eqb x d e)
 
 among_next : (d x : ℕ) (xs : List ℕ) → eqb x d ≡ false → among d (x ∷ xs) ≡ among d xs
 unfolding among
-among_next d x xs e = ap (λ b. b || any (λ y. eqb y d) xs) e
+among_next d x xs e = ap (λ b. b || list_any (λ y. eqb y d) xs) e
 
 -- ---- the first so many
 
@@ -143,23 +143,23 @@ left_in (Some k) d xs a t h = first_in d k xs a t h
 
 pub lists_meant : (r : Rule) → ListsMeant r
 lists_meant r d =
-    let s = r.start in
+    let s = r.choice.start in
     let e = stop r.until in
-    let f = chooses r.pattern r.start in
-    let xs = span (chooses r.pattern r.start) r.start (stop r.until) in
-    let asc = ascends (chooses r.pattern r.start) r.start (stop r.until - r.start) in
-    let has : (P : ℕ → Type 0) → AllByRecursion P (span (chooses r.pattern r.start) r.start (stop r.until)) → among d (days_in r) ≡ true → P d =
-    λ P a t. among_all P d (days_in r) (all_limited P r.count (span (chooses r.pattern r.start) r.start (stop r.until)) a) t in (
+    let f = chooses r.choice.pattern r.choice.start in
+    let xs = span (chooses r.choice.pattern r.choice.start) r.choice.start (stop r.until) in
+    let asc = ascends (chooses r.choice.pattern r.choice.start) r.choice.start (stop r.until - r.choice.start) in
+    let has : (P : ℕ → Type 0) → AllByRecursion P (span (chooses r.choice.pattern r.choice.start) r.choice.start (stop r.until)) → among d (days_in r) ≡ true → P d =
+    λ P a t. among_all P d (days_in r) (all_limited P r.count (span (chooses r.choice.pattern r.choice.start) r.choice.start (stop r.until)) a) t in (
       λ t.
-          let low : r.start ≤ d = has (λ x. r.start ≤ x) (from (chooses r.pattern r.start) r.start (stop r.until - r.start)) t in
-          let high : d < stop r.until = has (λ x. x < stop r.until) (under (chooses r.pattern r.start) r.start (stop r.until)) t in
+          let low : r.choice.start ≤ d = has (λ x. r.choice.start ≤ x) (from (chooses r.choice.pattern r.choice.start) r.choice.start (stop r.until - r.choice.start)) t in
+          let high : d < stop r.until = has (λ x. x < stop r.until) (under (chooses r.choice.pattern r.choice.start) r.choice.start (stop r.until)) t in
           record {
             from_start = low;
             to_last = high;
-            due = chosen_due r.pattern r.start d r.parts low (omega (arith, stop_low r.until)) (has (λ x. chooses r.pattern r.start x ≡ true) (passes (chooses r.pattern r.start) r.start (stop r.until - r.start)) t);
+            due = chosen_due r.choice.pattern r.choice.start d r.choice.parts low (omega (arith, stop_low r.until)) (has (λ x. chooses r.choice.pattern r.choice.start x ≡ true) (passes (chooses r.choice.pattern r.choice.start) r.choice.start (stop r.until - r.choice.start)) t);
             left = left_by r.count d xs asc t;
           },
-      λ m. left_in r.count d xs asc (in_span (chooses r.pattern r.start) r.start (stop r.until) d m.from_start m.to_last (due_chosen r.pattern r.start d m.due)) m.left,
+      λ m. left_in r.count d xs asc (in_span (chooses r.choice.pattern r.choice.start) r.choice.start (stop r.until) d m.from_start m.to_last (due_chosen r.choice.pattern r.choice.start d m.due)) m.left,
     )
   where
     under : (f : ℕ → Bool) (a b : ℕ) → AllByRecursion (λ x. x < b) (span f a b)

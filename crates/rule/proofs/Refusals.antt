@@ -1,15 +1,13 @@
 -- What is refused, and what is left where nothing is.
 use Rattle.std.proofs.Common.{◌≡◌, ℕ, zero, suc, ◌+◌, ◌-◌, ◌<◌, ◌≤◌, Bool, true, false, not, ◌&&◌, eqb, leb, List, [], ◌∷◌, take, is_some, Some, None, Option, sym, refl, ap, ◌∙◌, subst, ⊎_elim, arith}
-use Rattle.std.specs.List.{AllByRecursion}
+use Rattle.std.specs.List.{AllByRecursion, list_any}
 use Rattle.std.proofs.ByRecursion.{All-weaker, All-take}
-use Rattle.std.proofs.lemmas.Bool.Decides.{eqb_tells}
-use Rattle.std.proofs.lemmas.Bool.{cases_lt, cases_Bool, both_ways, and_parts, and_from, or_parts, or_from, or_left, leb-true, eq-eqb, ne_eqb}
+use Rattle.std.proofs.lemmas.Bool.{not-false, cases_lt, cases_Bool, both_ways, and_parts, and_from, or_parts, or_from, or_left, leb-true, eq-eqb, ne_eqb}
 use Rattle.calendar.specs.Years.{last_day}
 use Rattle.refusal.specs.declared.Refusal.TheVariants.{OutOfBounds, RuleConflict, StartNotPicked}
 use Rattle.recurrence.specs.declared.parts.Recurrence.{Recurrence}
 use Rattle.recurrence.specs.declared.parts.Pattern.{Pattern}
 use Rattle.rule.specs.Spans.{span, limited, stop}
-use Rattle.pattern.specs.Picks.{any}
 use Rattle.rule.specs.Lists.{chooses, days_of}
 use Rattle.recurrence.specs.Bounds.{pattern_fits, suits}
 use Rattle.rule.specs.Bounds.{sound, count_fits, one_end}
@@ -21,7 +19,7 @@ use Rattle.rule.specs.SpansLemmas.{from, skip, found, void}
 among_late : (s : ℕ) (xs : List ℕ) → AllByRecursion (λ x. s < x) xs → among s xs ≡ false
 unfolding among
 among_late s [] a = refl
-among_late s (x ∷ xs) a = or_from (eqb x s) (any (λ y. eqb y s) xs) (ne_eqb x s (λ e. omega (arith, a.0))) (among_late s xs a.1)
+among_late s (x ∷ xs) a = or_from (eqb x s) (list_any (λ y. eqb y s) xs) (ne_eqb x s (λ e. omega (arith, a.0))) (among_late s xs a.1)
 
 pub all_limited : (P : ℕ → Type 0) (c : Option ℕ) (xs : List ℕ) → AllByRecursion P xs → AllByRecursion P (limited c xs)
 all_limited P None xs a = a
@@ -47,7 +45,7 @@ too_late p s u c h =
 
 among_here : (s : ℕ) (xs : List ℕ) → among s (s ∷ xs) ≡ true
 unfolding among
-among_here s xs = or_left (eqb s s) (any (λ y. eqb y s) xs) (eq-eqb s s refl)
+among_here s xs = or_left (eqb s s) (list_any (λ y. eqb y s) xs) (eq-eqb s s refl)
 
 first_kept : (s : ℕ) (c : Option ℕ) (xs : List ℕ) → count_bounds c ≡ true → among s (limited c (s ∷ xs)) ≡ true
 first_kept s None xs b = among_here s xs
@@ -58,52 +56,40 @@ pub chosen_among : (p : Option Pattern) (s : ℕ) (u c : Option ℕ) → chooses
 chosen_among p s u c t l b =
     ap (λ (xs : List ℕ). among s (limited c xs)) (found (chooses p s) s (stop u) l t) ∙ first_kept s c (span (chooses p s) (s + 1) (stop u)) b
 
--- the first day from the start on tells
-pub start_told : (p : Option Pattern) (s r : ℕ) (u c : Option ℕ) → s < stop u → count_bounds c ≡ true → s ≤ r → r ≤ s + 1
-    → ((k : ℕ) → s ≤ k → k < r → chooses p s k ≡ false) → (r < s + 1 → chooses p s r ≡ true) → eqb r s ≡ among s (days_of p s u c)
-start_told p s r u c l b low high passed hit =
-    ⊎_elim
-    (λ t.
-    let e : r ≡ s = t.1 in
-    t.0 ∙ sym (chosen_among p s u c (subst (λ (k : ℕ). chooses p s k ≡ true) e (hit (omega arith))) l b))
-    (λ t.
-    let e : s < r = ⊎_elim (λ (g : s < r). g) (λ (g : r ≤ s). absurd (t.1 (let q : r ≡ s = omega arith in q))) (cases_lt s r) in
-    t.0 ∙ sym (unchosen p s u c (passed s (omega arith) e)))
-    (eqb_tells r s)
+-- the start is among the days if it is chosen
+pub start_told : (p : Option Pattern) (s : ℕ) (u c : Option ℕ) → s < stop u → count_bounds c ≡ true → chooses p s s ≡ among s (days_of p s u c)
+start_told p s u c l b = ⊎_elim (λ t. t ∙ sym (chosen_among p s u c t l b)) (λ t. t ∙ sym (unchosen p s u c t)) (cases_Bool (chooses p s s))
 
 -- ---- the refusals, in their order
 
-by_bounds : (a b c : Bool) → a ≡ false → Some OutOfBounds ≡ first_refusal a b c
-by_bounds true b c e = let z : ◌≡◌ {A = ℕ} 0 1 = cc in absurd (omega arith)
-by_bounds false b c e = refl
+by_bounds : (a b c : Bool) → false ≡ a → first_refusal a b c ≡ Some OutOfBounds
+by_bounds a b c e = rw (← e)
 
-by_conflict : (a b c : Bool) → a ≡ true → b ≡ true → Some RuleConflict ≡ first_refusal a b c
-by_conflict true true c e f = refl
-by_conflict true false c e f = let z : ◌≡◌ {A = ℕ} 0 1 = cc in absurd (omega arith)
-by_conflict false b c e f = let z : ◌≡◌ {A = ℕ} 0 1 = cc in absurd (omega arith)
+by_conflict : (a b c : Bool) → true ≡ a → true ≡ b → first_refusal a b c ≡ Some RuleConflict
+by_conflict a b c e f = rw (← e, ← f)
 
-by_start : (a b c : Bool) → a ≡ true → b ≡ false → c ≡ false → Some StartNotPicked ≡ first_refusal a b c
-by_start a b c e f g = sym (rw (e, f, g) refl)
+by_start : (a b c : Bool) → true ≡ a → false ≡ b → false ≡ c → first_refusal a b c ≡ Some StartNotPicked
+by_start a b c e f g = rw (← e, ← f, ← g)
 
-pub by_none : (a b c : Bool) → a ≡ true → b ≡ false → c ≡ true → None ≡ first_refusal a b c
-by_none a b c e f g = sym (rw (e, f, g) refl)
+pub by_none : (a b c : Bool) → true ≡ a → false ≡ b → true ≡ c → first_refusal a b c ≡ None
+by_none a b c e f g = rw (← e, ← f, ← g)
 
 module _ (s : ℕ) (r : Option Recurrence) where
-  pub refused_bounds : false ≡ in_bounds s r → Some OutOfBounds ≡ refusal s r
+  pub refused_bounds : false ≡ in_bounds s r → refusal s r ≡ Some OutOfBounds
   unfolding refusal
-  refused_bounds e = by_bounds (in_bounds s r) (conflict r) (among s (list_of s r)) (sym e)
+  refused_bounds e = by_bounds _ _ _ e
 
-  pub refused_conflict : true ≡ in_bounds s r → true ≡ conflict r → Some RuleConflict ≡ refusal s r
+  pub refused_conflict : true ≡ in_bounds s r → true ≡ conflict r → refusal s r ≡ Some RuleConflict
   unfolding refusal
-  refused_conflict e f = by_conflict (in_bounds s r) (conflict r) (among s (list_of s r)) (sym e) (sym f)
+  refused_conflict e f = by_conflict _ _ _ e f
 
-  pub refused_start : true ≡ in_bounds s r → false ≡ conflict r → false ≡ among s (list_of s r) → Some StartNotPicked ≡ refusal s r
+  pub refused_start : true ≡ in_bounds s r → false ≡ conflict r → false ≡ among s (list_of s r) → refusal s r ≡ Some StartNotPicked
   unfolding refusal
-  refused_start e f g = by_start (in_bounds s r) (conflict r) (among s (list_of s r)) (sym e) (sym f) (sym g)
+  refused_start e f g = by_start _ _ _ e f g
 
-  pub refused_none : true ≡ in_bounds s r → false ≡ conflict r → true ≡ among s (list_of s r) → None ≡ refusal s r
+  pub refused_none : true ≡ in_bounds s r → false ≡ conflict r → true ≡ among s (list_of s r) → refusal s r ≡ None
   unfolding refusal
-  refused_none e f g = by_none (in_bounds s r) (conflict r) (among s (list_of s r)) (sym e) (sym f) (sym g)
+  refused_none e f g = by_none _ _ _ e f g
 
 -- by the parts as the code has them
 pub same_list : (s : ℕ) (r : Option Recurrence) (o : Option Pattern) (u c : Option ℕ) (b : Bool) → o ≡ pattern_of r → u ≡ until_of r → c ≡ count_of r
@@ -113,10 +99,10 @@ same_list s r o u c b eo eu ec e =
     ∙ ap (λ (x : Option ℕ). among s (days_of (pattern_of r) s (until_of r) x)) ec
 
 nothing : (a b c : Bool) → first_refusal a b c ≡ None → (a ≡ true) × (b ≡ false) × (c ≡ true)
-nothing true true c e = let z : ◌≡◌ {A = ℕ} 0 1 = cc in absurd (omega arith)
+nothing true true c e = cc
 nothing true false true e = (refl, refl, refl)
-nothing true false false e = let z : ◌≡◌ {A = ℕ} 0 1 = cc in absurd (omega arith)
-nothing false b c e = let z : ◌≡◌ {A = ℕ} 0 1 = cc in absurd (omega arith)
+nothing true false false e = cc
+nothing false b c e = cc
 
 -- ---- what holds where nothing is refused
 
@@ -126,17 +112,13 @@ bounds_parts s r e =
     let b = and_parts (pattern_bounds (pattern_of r)) _ a.1 in
     (omega (arith, leb-true s last_day a.0), b.0, b.1)
 
-not_false : (b : Bool) → not b ≡ false → b ≡ true
-not_false true e = refl
-not_false false e = let z : ◌≡◌ {A = ℕ} 0 1 = cc in absurd (omega arith)
-
 sound_from : (o : Option Pattern) → pattern_bounds o ≡ true → pattern_suits o ≡ true → sound o ≡ true
 unfolding sound
 sound_from None a b = refl
 sound_from (Some p) a b = and_from (pattern_fits p) (suits p.frequency p.month_days p.week_days) a b
 
 conflict_parts : (r : Option Recurrence) → conflict r ≡ false → (pattern_suits (pattern_of r) ≡ true) × ((is_some (count_of r) && is_some (until_of r)) ≡ false)
-conflict_parts r e = let a = or_parts (not (pattern_suits (pattern_of r))) _ e in (not_false (pattern_suits (pattern_of r)) a.0, a.1)
+conflict_parts r e = let a = or_parts (not (pattern_suits (pattern_of r))) _ e in (not-false (pattern_suits (pattern_of r)) a.0, a.1)
 
 count_from : (c : Option ℕ) → count_bounds c ≡ true → count_fits c ≡ true
 count_from None b = refl
@@ -145,7 +127,7 @@ count_from (Some k) b = (and_parts (leb 1 k) (leb k 10000) b).1
 one_from : (u c : Option ℕ) → (is_some c && is_some u) ≡ false → one_end u c ≡ true
 one_from None c e = refl
 one_from (Some d) None e = refl
-one_from (Some d) (Some k) e = let z : ◌≡◌ {A = ℕ} 0 1 = cc in absurd (omega arith)
+one_from (Some d) (Some k) e = cc
 
 chosen_start : (p : Option Pattern) (s : ℕ) (u c : Option ℕ) → among s (days_of p s u c) ≡ true → chooses p s s ≡ true
 chosen_start p s u c t = ⊎_elim (λ e. e) (λ e. absurd (both_ways (among s (days_of p s u c)) (unchosen p s u c e) t)) (cases_Bool (chooses p s s))
@@ -178,9 +160,8 @@ fine s r o u c eo eu ec e =
     (subst (λ (x : Option ℕ). Fine s (pattern_of r) x c) (sym eu) (subst (λ (x : Option ℕ). Fine s (pattern_of r) (until_of r) x) (sym ec) (fine_of s r e)))
 
 -- and so they are tested
-pub to_test : (s : ℕ) (r : Option Recurrence) (o : Option Pattern) (c : Option ℕ) → o ≡ pattern_of r → c ≡ count_of r → in_bounds s r ≡ true → conflict r ≡ false
-    → (s < 109573) × ((sound o ≡ true) × (count_bounds c ≡ true))
-to_test s r o c eo ec e f =
+pub to_test : (s : ℕ) (r : Option Recurrence) (o : Option Pattern) → o ≡ pattern_of r → in_bounds s r ≡ true → conflict r ≡ false → (s < 109573) × (sound o ≡ true)
+to_test s r o eo e f =
     let b = bounds_parts s r e in
     let k = conflict_parts r f in
-    (b.0, (subst (λ (x : Option Pattern). sound x ≡ true) (sym eo) (sound_from (pattern_of r) b.1 k.0), subst (λ (x : Option ℕ). count_bounds x ≡ true) (sym ec) b.2))
+    (b.0, subst (λ (x : Option Pattern). sound x ≡ true) (sym eo) (sound_from (pattern_of r) b.1 k.0))

@@ -19,7 +19,7 @@ sound_parts p t = and_parts (pattern_fits p) (suits p.frequency p.month_days p.w
 
 -- a list with a day is not empty
 pub empty_not : (x : ℕ) (xs : List ℕ) → [] ≡ x ∷ xs → ⊥
-empty_not x xs e = let z : ◌≡◌ {A = ℕ} 0 1 = cc in omega arith
+empty_not x xs e = cc
 
 some_count : (c : Option ℕ) (x : ℕ) (xs ys : List ℕ) → count_fits c ≡ true → limited c ys ≡ x ∷ xs → count_bounds c ≡ true
 some_count None x xs ys f e = refl
@@ -60,16 +60,16 @@ module _ (s e : ℕ) (u c : Option ℕ) (b : s < 109573) (h : e ≤ stop u) (f :
       let q = sound_parts p t in
       let n = some_count c x xs (span (chooses (Some p) s) s (stop u)) f d in
       let l = past (chooses (Some p) s) s e x xs (sym settled ∙ d) in
-      sym (by_none (in_bounds s (recurrence_by (Some p) c u)) (conflict (recurrence_by (Some p) c u)) (among s (list_of s (recurrence_by (Some p) c u)))
-      (and_from (leb s last_day) _ (le-leb s last_day (omega arith)) (and_from (pattern_fits p) _ q.0 n))
-      (or_from (not (suits p.frequency p.month_days p.week_days)) _ (not_from_true _ q.1) (one_of u c x xs (span (chooses (Some p) s) s (stop u)) o d))
-      (chosen_among (Some p) s u c g (omega arith) n))
+      by_none (in_bounds s (recurrence_by (Some p) c u)) (conflict (recurrence_by (Some p) c u)) (among s (list_of s (recurrence_by (Some p) c u)))
+      (sym (and_from (leb s last_day) _ (le-leb s last_day (omega arith)) (and_from (pattern_fits p) _ q.0 n)))
+      (sym (or_from (not (suits p.frequency p.month_days p.week_days)) _ (not_from_true _ q.1) (one_of u c x xs (span (chooses (Some p) s) s (stop u)) o d)))
+      (sym (chosen_among (Some p) s u c g (omega arith) n))
 
 accepted_once : (s : ℕ) → s < 109573 → refusal s None ≡ None
 unfolding refusal
 accepted_once s b =
-    sym (by_none (in_bounds s None) (conflict None) (among s (list_of s None)) (and_from (leb s last_day) true (le-leb s last_day (omega arith)) refl) refl
-    (chosen_among None s None None (once s s ∙ eq-eqb s s refl) b refl))
+    by_none (in_bounds s None) (conflict None) (among s (list_of s None)) (sym (and_from (leb s last_day) true (le-leb s last_day (omega arith)) refl)) refl
+    (sym (chosen_among None s None None (once s s ∙ eq-eqb s s refl) b refl))
 
 remade : (s e : ℕ) (o : Option Pattern) (u c : Option ℕ) → s < 109573 → e ≤ stop u → sound o ≡ true → chooses o s s ≡ true → count_fits c ≡ true → one_end u c ≡ true
     → days_of o s u c ≡ span (chooses o s) s e → (x : ℕ) (xs : List ℕ) → days_of o s u c ≡ x ∷ xs
@@ -80,5 +80,5 @@ remade s e (Some p) u c b h t g f n settled x xs d = (accepted s e u c b h f n p
 
 pub remakes : (r : Rule) → Remakes r
 remakes r x xs d =
-    let m = remade r.start r.end r.pattern r.until r.count r.range.0 r.range.1 r.parts r.begins r.few r.ends r.settled x xs d in
-    record { first = first_day (chooses r.pattern r.start) r.start r.end x xs r.begins (sym r.settled ∙ d); accepted = m.0; same = m.1 }
+    let m = remade r.choice.start r.end r.choice.pattern r.until r.count r.choice.begun r.range.0 r.choice.parts r.begins r.few r.ends r.settled x xs d in
+    record { first = first_day (chooses r.choice.pattern r.choice.start) r.choice.start r.end x xs r.begins (sym r.settled ∙ d); accepted = m.0; same = m.1 }

@@ -1,24 +1,22 @@
 -- The cuts of a rule.
-use Rattle.std.specs.Prelude.{◌≡◌, ℕ, ◌+◌, ◌-◌, ◌<◌, ◌≤◌, min, max, Bool, true, false, not, ltb, leb, List, [], length, take, is_some, Some, None, Option, MatchOption, nat_le, nat_lt, refl}
+use Rattle.std.specs.Prelude.{◌≡◌, ℕ, ◌+◌, ◌-◌, ◌<◌, ◌≤◌, min, max, Bool, true, not, ltb, leb, List, [], length, take, Some, None, Option, MatchOption, nat_le, nat_lt, refl}
 use Rattle.std.proofs.Common.{sym, ap, subst, ◌∙◌, ⊎_elim, arith}
-use Rattle.std.proofs.lemmas.Bool.{true≢false, cases_lt, lt-leb, le-leb, lt-ltb, le-ltb}
+use Rattle.std.proofs.lemmas.Bool.{cases_lt, lt-leb, le-leb, lt-ltb, le-ltb}
 use Rattle.std.proofs.lemmas.List.Filters.{length-filter_both}
 use Rattle.std.specs.List.{AllByRecursion}
 use Rattle.std.proofs.ByRecursion.{All-weaker}
 use Rattle.calendar.specs.Years.{last_day}
 use Rattle.source.specs.Days.{Ascending, head_of, first_from, before, since}
 use Rattle.recurrence.specs.declared.parts.Pattern.{Pattern}
-use Rattle.rule.specs.Spans.{span, stop, First}
+use Rattle.pattern.specs.First.{NoneIn, FirstIs, First}
+use Rattle.rule.specs.Spans.{span, stop}
 use Rattle.rule.specs.Lists.{chooses, days_of}
 use Rattle.rule.specs.Cut.{recount, lowered, reuntil}
 use Rattle.rule.specs.SpansLemmas.{ascends, until, alike, skip, found, empty, before_span, since_span, first_span, taken_span}
 use Rattle.rule.specs.Tails.{moved}
 
-pub first_in : (f : ℕ → Bool) (a e r : ℕ) → First f a e r → r < e → span f a e ≡ span f r e
-first_in f a e r x l = let b = x.low in skip f a r e x.low (omega arith) (λ k p q. x.passed k p q (omega arith))
-
-first_out : (f : ℕ → Bool) (a e r : ℕ) → First f a e r → e ≤ r → span f a e ≡ []
-first_out f a e r x l = empty f a e (λ k p q. x.passed k p (omega arith) q)
+first_in : (f : ℕ → Bool) (a e r : ℕ) → FirstIs f a e r → span f a e ≡ span f r e
+first_in f a e r x = let b = x.high in skip f a r e x.low (omega arith) x.passed
 
 -- a rule's list is a span
 module _ (p : Option Pattern) (s : ℕ) (u c : Option ℕ) (e : ℕ) (settled : days_of p s u c ≡ span (chooses p s) s e) where
@@ -30,44 +28,41 @@ module _ (p : Option Pattern) (s : ℕ) (u c : Option ℕ) (e : ℕ) (settled : 
       subst (λ (xs : List ℕ). AllByRecursion (λ d. d ≤ last_day) xs) (sym settled)
       (All-weaker (λ d. d < max s e) (λ d. d ≤ last_day) (λ d m. omega arith) (span (chooses p s) s e) (until (chooses p s) s (e - s) (max s e) (omega arith)))
 
-  pub first_some : (d r : ℕ) → First (chooses p s) (max s d) e r → r < e → Some r ≡ first_from d (days_of p s u c)
-  first_some d r x l =
-      sym (ap (first_from d) settled ∙ first_span (chooses p s) d s e ∙ ap head_of (first_in (chooses p s) (max s d) e r x l ∙ found (chooses p s) r e l (x.found l)))
+  pub first_some : (d r : ℕ) → FirstIs (chooses p s) (max s d) e r → Some r ≡ first_from d (days_of p s u c)
+  first_some d r x =
+      sym (ap (first_from d) settled ∙ first_span (chooses p s) d s e ∙ ap head_of (first_in (chooses p s) (max s d) e r x ∙ found (chooses p s) r e x.high x.found))
 
-  pub first_none : (d r : ℕ) → First (chooses p s) (max s d) e r → e ≤ r → None ≡ first_from d (days_of p s u c)
-  first_none d r x l =
-      sym (ap (first_from d) settled ∙ first_span (chooses p s) d s e ∙ ap head_of (first_out (chooses p s) (max s d) e r x l))
+  pub first_none : (d : ℕ) → NoneIn (chooses p s) (max s d) e → None ≡ first_from d (days_of p s u c)
+  first_none d x =
+      sym (ap (first_from d) settled ∙ first_span (chooses p s) d s e ∙ ap head_of (empty (chooses p s) (max s d) e x))
 
-  before_is : (d : ℕ) → before d (days_of p s u c) ≡ span (chooses p s) s (min e d)
+  pub first_is : (d : ℕ) (o : Option ℕ) → First (chooses p s) (max s d) e o → o ≡ first_from d (days_of p s u c)
+  first_is d None x = first_none d x
+  first_is d (Some r) x = first_some d r x
+
+  pub before_is : (d : ℕ) → before d (days_of p s u c) ≡ span (chooses p s) s (min e d)
   before_is d = ap (before d) settled ∙ before_span (chooses p s) d s e
 
-  pub since_is : (d r : ℕ) → First (chooses p s) (max s d) e r → r < e → since d (days_of p s u c) ≡ span (chooses p s) r e
-  since_is d r x l = ap (since d) settled ∙ since_span (chooses p s) d s e ∙ first_in (chooses p s) (max s d) e r x l
+  pub since_is : (d r : ℕ) → FirstIs (chooses p s) (max s d) e r → since d (days_of p s u c) ≡ span (chooses p s) r e
+  since_is d r x = ap (since d) settled ∙ since_span (chooses p s) d s e ∙ first_in (chooses p s) (max s d) e r x
 
   -- the head with COUNT
   pub head_settled : (d m n : ℕ) → m ≡ min e d → e ≤ stop u → n ≡ length (span (chooses p s) s m) → days_of p s u (Some n) ≡ span (chooses p s) s m
   head_settled d m n em h q = ap (λ k. take k (span (chooses p s) s (stop u))) q ∙ taken_span (chooses p s) s m (stop u) (omega arith)
 
-  pub head_days : (d m n : ℕ) → m ≡ min e d → e ≤ stop u → n ≡ length (span (chooses p s) s m) → days_of p s u (Some n) ≡ before d (days_of p s u c)
-  head_days d m n em h q = head_settled d m n em h q ∙ ap (span (chooses p s) s) em ∙ sym (before_is d)
-
   -- the tail
-  pub tail_none : (d r : ℕ) → First (chooses p s) (max s d) e r → e ≤ r → [] ≡ since d (days_of p s u c)
-  tail_none d r x l = sym (ap (since d) settled ∙ since_span (chooses p s) d s e ∙ first_out (chooses p s) (max s d) e r x l)
+  pub tail_none : (d : ℕ) → NoneIn (chooses p s) (max s d) e → [] ≡ since d (days_of p s u c)
+  tail_none d x = sym (ap (since d) settled ∙ since_span (chooses p s) d s e ∙ empty (chooses p s) (max s d) e x)
 
-  like : (r b : ℕ) → chooses p s r ≡ true → span (chooses p r) r b ≡ span (chooses p s) r b
+  pub like : (r b : ℕ) → chooses p s r ≡ true → span (chooses p r) r b ≡ span (chooses p s) r b
   like r b t = alike (chooses p r) (chooses p s) r (b - r) (moved p s r t)
 
-  pub tail_settled : (d r n : ℕ) → First (chooses p s) (max s d) e r → r < e → e ≤ stop u → n ≡ length (span (chooses p s) r e)
+  pub tail_settled : (d r n : ℕ) → FirstIs (chooses p s) (max s d) e r → e ≤ stop u → n ≡ length (span (chooses p s) r e)
       → days_of p r u (Some n) ≡ span (chooses p r) r e
-  tail_settled d r n x l h q =
-      let t = x.found l in
+  tail_settled d r n x h q =
+      let t = x.found in
       ap (λ xs. take n xs) (like r (stop u) t) ∙ ap (λ k. take k (span (chooses p s) r (stop u))) q
       ∙ taken_span (chooses p s) r e (stop u) h ∙ sym (like r e t)
-
-  pub tail_days : (d r n : ℕ) → First (chooses p s) (max s d) e r → r < e → e ≤ stop u → n ≡ length (span (chooses p s) r e)
-      → days_of p r u (Some n) ≡ since d (days_of p s u c)
-  tail_days d r n x l h q = tail_settled d r n x l h q ∙ like r e (x.found l) ∙ sym (since_is d r x l)
 
 -- without COUNT
 module _ (p : Option Pattern) (s : ℕ) (u : Option ℕ) (e : ℕ) (settled : days_of p s u None ≡ span (chooses p s) s e) where
@@ -75,34 +70,34 @@ module _ (p : Option Pattern) (s : ℕ) (u : Option ℕ) (e : ℕ) (settled : da
   until_is d m v em q =
       ap (span (chooses p s) s) q ∙ sym (before_span (chooses p s) d s (stop u)) ∙ before_is p s u None e settled d ∙ ap (span (chooses p s) s) (sym em)
 
-  open_is : (d r : ℕ) → First (chooses p s) (max s d) e r → r < e → days_of p r u None ≡ span (chooses p r) r e
-  open_is d r x l =
-      let t = x.found l in
+  open_is : (d r : ℕ) → FirstIs (chooses p s) (max s d) e r → days_of p r u None ≡ span (chooses p r) r e
+  open_is d r x =
+      let t = x.found in
       let b = x.low in
       let k : max s r ≡ r = omega arith in
       let m : span (chooses p s) (max s r) (stop u) ≡ span (chooses p s) (max s r) e =
       sym (since_span (chooses p s) r s (stop u)) ∙ ap (since r) settled ∙ since_span (chooses p s) r s e in
       like p s u None e settled r (stop u) t ∙ rw k at m ∙ sym (like p s u None e settled r e t)
 
-pub until_settled : (p : Option Pattern) (s : ℕ) (u c : Option ℕ) (e : ℕ) → days_of p s u c ≡ span (chooses p s) s e → is_some c ≡ false
-    → (d m : ℕ) (v : Option ℕ) → m ≡ min e d → stop v ≡ min (stop u) d → days_of p s v None ≡ span (chooses p s) s m
-until_settled p s u None e settled n d m v em q = until_is p s u e settled d m v em q
-until_settled p s u (Some k) e settled n d m v em q = absurd (true≢false n)
+stop_lowered : (u : Option ℕ) (d : ℕ) → stop (lowered u d) ≡ min (stop u) d
+stop_lowered None d =
+    ⊎_elim (λ (l : last_day < d). rw (lt-leb d last_day l) (omega arith)) (λ (l : d ≤ last_day). rw (le-leb d last_day l) (omega arith)) (cases_lt last_day d)
+stop_lowered (Some k) d = omega arith
 
-pub until_days : (p : Option Pattern) (s : ℕ) (u c : Option ℕ) (e : ℕ) → days_of p s u c ≡ span (chooses p s) s e → is_some c ≡ false
-    → (d m : ℕ) (v : Option ℕ) → m ≡ min e d → stop v ≡ min (stop u) d → days_of p s v None ≡ before d (days_of p s u c)
-until_days p s u c e settled n d m v em q =
-    until_settled p s u c e settled n d m v em q ∙ ap (span (chooses p s) s) em ∙ sym (before_is p s u c e settled d)
+pub stop_before : (c u : Option ℕ) (d : ℕ) → min (stop u) d ≤ stop (reuntil c u d)
+stop_before None u d = omega (arith, stop_lowered u d)
+stop_before (Some k) u d = omega arith
 
-pub open_settled : (p : Option Pattern) (s : ℕ) (u c : Option ℕ) (e : ℕ) → days_of p s u c ≡ span (chooses p s) s e → is_some c ≡ false
-    → (d r : ℕ) → First (chooses p s) (max s d) e r → r < e → days_of p r u None ≡ span (chooses p r) r e
-open_settled p s u None e settled n d r x l = open_is p s u e settled d r x l
-open_settled p s u (Some k) e settled n d r x l = absurd (true≢false n)
+-- with COUNT and without
+pub head_list : (p : Option Pattern) (s : ℕ) (u c : Option ℕ) (e : ℕ) → days_of p s u c ≡ span (chooses p s) s e → e ≤ stop u
+    → (d m : ℕ) → m ≡ min e d → days_of p s (reuntil c u d) (recount c (span (chooses p s) s m)) ≡ span (chooses p s) s m
+head_list p s u None e settled h d m em = until_is p s u e settled d m (lowered u d) em (stop_lowered u d)
+head_list p s u (Some k) e settled h d m em = head_settled p s u (Some k) e settled d m _ em h refl
 
-pub open_days : (p : Option Pattern) (s : ℕ) (u c : Option ℕ) (e : ℕ) → days_of p s u c ≡ span (chooses p s) s e → is_some c ≡ false
-    → (d r : ℕ) → First (chooses p s) (max s d) e r → r < e → days_of p r u None ≡ since d (days_of p s u c)
-open_days p s u c e settled n d r x l =
-    open_settled p s u c e settled n d r x l ∙ like p s u c e settled r e (x.found l) ∙ sym (since_is p s u c e settled d r x l)
+pub tail_list : (p : Option Pattern) (s : ℕ) (u c : Option ℕ) (e : ℕ) → days_of p s u c ≡ span (chooses p s) s e → e ≤ stop u
+    → (d r : ℕ) → FirstIs (chooses p s) (max s d) e r → days_of p r u (recount c (span (chooses p s) r e)) ≡ span (chooses p r) r e
+tail_list p s u None e settled h d r x = open_is p s u e settled d r x
+tail_list p s u (Some k) e settled h d r x = tail_settled p s u (Some k) e settled d r _ x h refl
 
 -- ---- the parts of a cut
 
@@ -117,21 +112,12 @@ halves d xs = sym (length-filter_both (λ x. ltb x d) (λ x. leb d x) (λ x. tur
 pub halves_by : (d : ℕ) (xs ys : List ℕ) → ys ≡ since d xs → length xs ≡ length (before d xs) + length ys
 halves_by d xs ys e = halves d xs ∙ ap (λ zs. length (before d xs) + length zs) (sym e)
 
-pub recount_some : (c : Option ℕ) (n : ℕ) (xs : List ℕ) → is_some c ≡ true → n ≡ length xs → Some n ≡ recount c xs
-recount_some None n xs t e = absurd (true≢false (sym t))
-recount_some (Some k) n xs t e = ap (λ j. Some j) e
+recounted : (c : Option ℕ) (xs ys : List ℕ) → xs ≡ ys → recount c xs ≡ recount (recount c xs) ys
+recounted None xs ys q = refl
+recounted (Some k) xs ys q = ap (λ zs. Some (length zs)) q
 
-pub recount_none : (c : Option ℕ) (xs : List ℕ) → is_some c ≡ false → None ≡ recount c xs
-recount_none None xs t = refl
-recount_none (Some k) xs t = absurd (true≢false t)
-
-pub reuntil_some : (c u : Option ℕ) (d : ℕ) → is_some c ≡ true → u ≡ reuntil c u d
-reuntil_some None u d t = absurd (true≢false (sym t))
-reuntil_some (Some k) u d t = refl
-
-pub reuntil_none : (c u v : Option ℕ) (d : ℕ) → is_some c ≡ false → v ≡ lowered u d → v ≡ reuntil c u d
-reuntil_none None u v d t e = e
-reuntil_none (Some k) u v d t e = absurd (true≢false t)
+pub counted : (c n : Option ℕ) (xs ys : List ℕ) → n ≡ recount c xs → xs ≡ ys → n ≡ recount n ys
+counted c n xs ys e q = e ∙ recounted c xs ys q ∙ ap (λ (o : Option ℕ). recount o ys) (sym e)
 
 pub at_none : (o : Option ℕ) (P : Type 0) (Q : ℕ → Type 0) → None ≡ o → P → MatchOption o P Q
 at_none o P Q e p = subst (λ (x : Option ℕ). MatchOption x P Q) e p

@@ -9,10 +9,10 @@ use Rattle.source.specs.declared.intervals.Interval.{Interval}
 use Rattle.source.specs.Days.{since}
 use Rattle.source.specs.Intervals.{interval_days}
 use Rattle.recurrence.specs.declared.parts.Frequency.TheVariants.{Weekly, Monthly}
-use Rattle.recurrence.specs.declared.parts.MonthDay.TheVariants as monthDays
-use Rattle.recurrence.specs.declared.parts.Ordinal.TheVariants.{Every, FromEnd}
+use Rattle.recurrence.specs.declared.parts.Ordinal.TheVariants.{FromStart, FromEnd}
 use Rattle.recurrence.specs.declared.parts.DayEntry.{DayEntry}
 use Rattle.recurrence.specs.declared.parts.Few.{Few}
+use Rattle.recurrence.specs.Entries.{none}
 use Rattle.recurrence.specs.declared.parts.Recurrence.{Recurrence}
 use Rattle.rule.specs.Refused.{list_of}
 
@@ -22,9 +22,6 @@ date y m d = record { year = y; month = m; day = d }
 abbrev day : ℕ → ℕ → ℕ → ℕ
 day y m d = day_of (date y m d)
 
-abbrev none : {X : Type 0} → X → Few X
-none x = record { items = replicate 12 x; len = 0 }
-
 abbrev one : {X : Type 0} → X → Few X
 one x = record { items = replicate 12 x; len = 1 }
 
@@ -32,36 +29,40 @@ abbrev two : {X : Type 0} → X → X → Few X
 two x y = record { items = x ∷ replicate 11 y; len = 2 }
 
 abbrev on : Weekday → DayEntry
-on w = record { weekday = w; ordinal = Every }
+on w = record { weekday = w; ordinal = None }
 
 -- MONTHLY with a COUNT and entries of BYDAY
 abbrev monthly : ℕ → Few DayEntry → Option Recurrence
 monthly n days = Some (record {
-  frequency = Monthly;
-  interval = 1;
-  week_start = Monday;
+  pattern = record {
+    frequency = Monthly;
+    interval = 1;
+    week_start = Monday;
+    months = none 1;
+    month_days = none (FromStart 1);
+    week_days = days;
+  };
   count = Some n;
   until = None;
-  months = none 1;
-  month_days = none (monthDays.FromStart 1);
-  week_days = days;
 })
 
 -- WEEKLY;INTERVAL=2;COUNT=4;BYDAY=TU,SU, the weeks from a given weekday on
 abbrev fortnightly : Weekday → Option Recurrence
 fortnightly w = Some (record {
-  frequency = Weekly;
-  interval = 2;
-  week_start = w;
+  pattern = record {
+    frequency = Weekly;
+    interval = 2;
+    week_start = w;
+    months = none 1;
+    month_days = none (FromStart 1);
+    week_days = two (on Tuesday) (on Sunday);
+  };
   count = Some 4;
   until = None;
-  months = none 1;
-  month_days = none (monthDays.FromStart 1);
-  week_days = two (on Tuesday) (on Sunday);
 })
 
 abbrev last_friday : DayEntry
-last_friday = record { weekday = Friday; ordinal = FromEnd 1 }
+last_friday = record { weekday = Friday; ordinal = Some (FromEnd 1) }
 
 abbrev ends : List ℕ
 ends = list_of (day 2024 1 31) (monthly 3 (none (on Monday)))

@@ -30,10 +30,10 @@ Leaves (Some k) n = n < k
 
 -- d is due from the start to the last day, and COUNT does not cut it off
 pub record Meant (r : Rule) (d : ℕ) : Type 0 where
-  pub from_start : r.start ≤ d
+  pub from_start : r.choice.start ≤ d
   pub to_last : d < stop r.until
-  pub due : DueIn r.pattern r.start d
-  pub left : Leaves r.count (length (before d (days_of r.pattern r.start r.until None)))
+  pub due : DueIn r.choice.pattern r.choice.start d
+  pub left : Leaves r.count (length (before d (days_of r.choice.pattern r.choice.start r.until None)))
 
 -- the days of the list are the days that are meant
 abbrev pub ListsMeant : Rule → Type 0

@@ -1,12 +1,12 @@
 -- What a start and a recurrence are refused for, and the rule that is made of them.
 use Rattle.std.specs.Prelude.{◌≡◌, ℕ, Bool, true, cond, not, ◌&&◌, ◌||◌, List, is_some, Some, None, Ok, Err, Option, Result, nat_eq, nat_le}
+use Rattle.std.specs.List.{list_any}
 use Rattle.calendar.specs.Years.{last_day}
 use Rattle.refusal.specs.declared.Refusal.{Refusal}
 use Rattle.refusal.specs.declared.Refusal.TheVariants.{OutOfBounds, RuleConflict, StartNotPicked}
 use Rattle.recurrence.specs.declared.parts.Recurrence.{Recurrence}
 use Rattle.recurrence.specs.declared.parts.Pattern.{Pattern}
 use Rattle.rule.specs.declared.rules.Rule.{Rule}
-use Rattle.pattern.specs.Picks.{any}
 use Rattle.rule.specs.Lists.{days_of}
 use Rattle.recurrence.specs.Bounds.{within, pattern_fits, suits}
 use Rattle.rule.specs.Cut.{days_in}
@@ -15,14 +15,7 @@ use Rattle.rule.specs.Cut.{days_in}
 
 abbrev pub pattern_of : Option Recurrence → Option Pattern
 pattern_of None = None
-pattern_of (Some r) = Some (record {
-  frequency = r.frequency;
-  interval = r.interval;
-  week_start = r.week_start;
-  months = r.months;
-  month_days = r.month_days;
-  week_days = r.week_days;
-})
+pattern_of (Some r) = Some r.pattern
 
 abbrev pub until_of : Option Recurrence → Option ℕ
 until_of None = None
@@ -57,7 +50,7 @@ abbrev pub conflict : Option Recurrence → Bool
 conflict r = not (pattern_suits (pattern_of r)) || (is_some (count_of r) && is_some (until_of r))
 
 unfoldable pub among : ℕ → List ℕ → Bool
-among d xs = any (λ x. nat_eq x d) xs
+among d xs = list_any (λ x. nat_eq x d) xs
 
 abbrev pub first_refusal : Bool → Bool → Bool → Option Refusal
 first_refusal bounds clash picked = cond bounds (cond clash (Some RuleConflict) (cond picked None (Some StartNotPicked))) (Some OutOfBounds)
@@ -68,8 +61,8 @@ refusal start r = first_refusal (in_bounds start r) (conflict r) (among start (l
 -- ---- what is made
 
 pub record Made (start : ℕ) (r : Option Recurrence) (rule : Rule) : Type 0 where
-  pub pattern : rule.pattern ≡ pattern_of r
-  pub start_is : rule.start ≡ start
+  pub pattern : rule.choice.pattern ≡ pattern_of r
+  pub start_is : rule.choice.start ≡ start
   pub until : rule.until ≡ until_of r
   pub count : rule.count ≡ count_of r
   pub days : days_in rule ≡ list_of start r

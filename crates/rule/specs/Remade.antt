@@ -8,25 +8,16 @@ use Rattle.rule.specs.Refused.{list_of, refusal}
 
 abbrev pub recurrence_by : Option Pattern → Option ℕ → Option ℕ → Option Recurrence
 recurrence_by None count until = None
-recurrence_by (Some p) count until = Some (record {
-  frequency = p.frequency;
-  interval = p.interval;
-  week_start = p.week_start;
-  count = count;
-  until = until;
-  months = p.months;
-  month_days = p.month_days;
-  week_days = p.week_days;
-})
+recurrence_by (Some p) count until = Some (record { pattern = p; count = count; until = until })
 
 abbrev pub recurrence_in : Rule → Option Recurrence
-recurrence_in r = recurrence_by r.pattern r.count r.until
+recurrence_in r = recurrence_by r.choice.pattern r.count r.until
 
 -- the first day of a rule that has days is its start; start and recurrence are not refused, and mean the same days
 pub record Remade (r : Rule) (x : ℕ) : Type 0 where
-  pub first : x ≡ r.start
-  pub accepted : refusal r.start (recurrence_in r) ≡ None
-  pub same : list_of r.start (recurrence_in r) ≡ days_in r
+  pub first : x ≡ r.choice.start
+  pub accepted : refusal r.choice.start (recurrence_in r) ≡ None
+  pub same : list_of r.choice.start (recurrence_in r) ≡ days_in r
 
 abbrev pub Remakes : Rule → Type 0
 Remakes r = (x : ℕ) (xs : List ℕ) → days_in r ≡ x ∷ xs → Remade r x

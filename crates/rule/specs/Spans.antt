@@ -1,5 +1,5 @@
 -- Of a span of days those that pass a test, in their order.
-use Rattle.std.specs.Prelude.{◌≡◌, ℕ, zero, suc, ◌-◌, ◌<◌, ◌≤◌, min, Bool, true, false, cond, List, [], ◌∷◌, take, Some, None, Option}
+use Rattle.std.specs.Prelude.{ℕ, zero, suc, ◌-◌, min, Bool, cond, List, [], ◌∷◌, take, Some, None, Option}
 
 -- of the n days from a on those that pass (the rest is named first, so that it is not computed before it is asked for)
 abbrev pub chosen : (ℕ → Bool) → ℕ → ℕ → List ℕ
@@ -19,9 +19,3 @@ limited (Some k) xs = take k xs
 abbrev pub stop : Option ℕ → ℕ
 stop None = 109573
 stop (Some day) = min day 109573
-
--- r is the first day from a on that passes, if it lies before e; else none does
-pub record First (f : ℕ → Bool) (a e r : ℕ) : Type 0 where
-  pub low : a ≤ r
-  pub passed : (k : ℕ) → a ≤ k → k < r → k < e → f k ≡ false
-  pub found : r < e → f r ≡ true

@@ -1,13 +1,13 @@
 -- Spans of days, and where a day cuts them.
 use Rattle.std.specs.Prelude.{◌≡◌, ℕ, zero, suc, ◌+◌, ◌-◌, ◌<◌, ◌≤◌, min, max, Bool, true, false, ltb, List, [], ◌∷◌, ◌++◌, length, take, nat_lt, refl}
-use Rattle.std.proofs.Common.{sym, ap, ◌∙◌, append_assoc, ⊎_elim, arith}
+use Rattle.std.proofs.Common.{sym, ap, ◌∙◌, ⊎_elim, arith}
 use Rattle.std.proofs.lemmas.Bool.{cases_lt, cases_Bool, lt-ltb, le-ltb, lt-leb}
 use Rattle.std.specs.List.{AllByRecursion}
 use Rattle.std.proofs.ByRecursion.{All-weaker}
 use Rattle.source.specs.Days.{Ascending, head_of, first_from, before, since}
 use Rattle.source.specs.Kept.{kept_none}
 use Rattle.source.specs.Ascents.{since_whole}
-use Rattle.rule.specs.Spans.{chosen, span, stop}
+use Rattle.rule.specs.Spans.{chosen, span}
 
 -- ---- the list of the days from a on
 
@@ -138,58 +138,3 @@ pub taken_span : (f : ℕ → Bool) (a b c : ℕ) → b ≤ c → take (length (
 taken_span f a b c h =
     ⊎_elim (λ l. rw (split f a b c (omega arith) h) (taken_all (span f a b) (span f b c)))
     (λ l. rw (void f a b l) refl) (cases_lt a b)
-
--- ---- from one day to the next
-
--- r is the first day from a on that passes, before e, or e
-pub record Next (f : ℕ → Bool) (a e r : ℕ) : Type 0 where
-  pub low : a ≤ r
-  pub high : r ≤ e
-  pub passed : (k : ℕ) → a ≤ k → k < r → f k ≡ false
-  pub found : r < e → f r ≡ true
-
-pub next_in : (f : ℕ → Bool) (a e r : ℕ) → Next f a e r → r < e → span f a e ≡ r ∷ span f (r + 1) e
-next_in f a e r x l = skip f a r e x.low x.high x.passed ∙ found f r e l (x.found l)
-
-pub next_out : (f : ℕ → Bool) (a e r : ℕ) → Next f a e r → e ≤ r → span f a e ≡ []
-next_out f a e r x l = skip f a r e x.low x.high x.passed ∙ void f r e l
-
-next_one : (f : ℕ → Bool) (a e r : ℕ) → Next f a e r → r < e → span f a (r + 1) ≡ r ∷ []
-next_one f a e r x l =
-    let b = x.low in
-    skip f a r (r + 1) x.low (omega arith) x.passed ∙ found f r (r + 1) (omega arith) (x.found l)
-    ∙ ap (λ xs. r ∷ xs) (void f (r + 1) (r + 1) (omega arith))
-
-take_some : (k x : ℕ) (xs : List ℕ) → 0 < k → take k (x ∷ xs) ≡ x ∷ take (k - 1) xs
-take_some zero x xs h = absurd (omega arith)
-take_some (suc k) x xs h = let e : suc k - 1 ≡ k = omega arith in rw e
-
--- a turn of the count: one day more
-pub settle_more : (f : ℕ → Bool) (s c day stop r left : ℕ) → s ≤ day → Next f day stop r → r < stop → 0 < left
-    → take c (span f s stop) ≡ span f s day ++ take left (span f day stop)
-    → take c (span f s stop) ≡ span f s (r + 1) ++ take (left - 1) (span f (r + 1) stop)
-settle_more f s c day stop r left h x l some e =
-    let b = x.low in
-    e ∙ ap (λ xs. span f s day ++ take left xs) (next_in f day stop r x l)
-    ∙ ap (λ xs. span f s day ++ xs) (take_some left r (span f (r + 1) stop) some)
-    ∙ sym (append_assoc (span f s day) (r ∷ []) (take (left - 1) (span f (r + 1) stop)))
-    ∙ ap (λ xs. xs ++ take (left - 1) (span f (r + 1) stop))
-    (sym (split f s day (r + 1) h (omega arith) ∙ ap (λ xs. span f s day ++ xs) (next_one f day stop r x l)))
-
-take_nil : (k : ℕ) → take {A = ℕ} k [] ≡ []
-take_nil zero = refl
-take_nil (suc k) = refl
-
--- no day is left before the count is
-pub settle_out : (f : ℕ → Bool) (s c day stop r left : ℕ) → s ≤ day → Next f day stop r → stop ≤ r
-    → take c (span f s stop) ≡ span f s day ++ take left (span f day stop)
-    → take c (span f s stop) ≡ span f s stop
-settle_out f s c day stop r left h x l e =
-    let b = x.low in
-    let u = x.high in
-    let n = next_out f day stop r x l in
-    e ∙ ap (λ xs. span f s day ++ take left xs) n ∙ ap (λ xs. span f s day ++ xs) (take_nil left)
-    ∙ sym (split f s day stop h (omega arith) ∙ ap (λ xs. span f s day ++ xs) n)
-
-pub settle_none : (f : ℕ → Bool) (s stop c : ℕ) → stop ≤ s → take c (span f s stop) ≡ span f s stop
-settle_none f s stop c h = let v = void f s stop h in ap (take c) v ∙ take_nil c ∙ sym v

@@ -2,6 +2,7 @@
 #![tactic(auto)]
 
 mod again;
+mod choice;
 pub mod known;
 mod listing;
 mod making;

@@ -1,11 +1,10 @@
 // Making a rule of a start and a recurrence, or refusing it.
-ghost use Rattle.std.specs.Prelude.{◌≡◌, ◌<◌, ◌≤◌, true, false, None};
+ghost use Rattle.std.specs.Prelude.{◌≡◌, ◌≤◌, true, false, Some, None, MatchResult};
 ghost use Rattle.rule.specs.Spans.{span, stop};
 ghost use Rattle.rule.specs.Lists.{chooses, days_of};
-ghost use Rattle.rule.specs.Bounds.{sound};
-ghost use Rattle.rule.specs.Refused.{pattern_of, until_of, count_of, list_of, pattern_bounds, pattern_suits, count_bounds, in_bounds, conflict, among, refusal, Made, MakesRule};
+ghost use Rattle.rule.specs.Refused.{pattern_of, until_of, count_of, count_bounds, in_bounds, conflict, among, refusal, Made, MakesRule};
 
-use crate::listing::{next_day, settle};
+use crate::choice::Choice;
 use crate::rules::Rule;
 use calendar::days::LAST_DAY;
 use recurrence::parts::{Pattern, Recurrence};
@@ -14,163 +13,111 @@ use refusal::Refusal;
 fn pattern_of(recurrence: &Option<Recurrence>) -> Option<Pattern>
     ensures { result ≡ pattern_of recurrence.now }
 {
-    match recurrence {
-        None => None,
-        Some(r) => Some(Pattern {
-            frequency: r.frequency,
-            interval: r.interval,
-            week_start: r.week_start,
-            months: r.months,
-            month_days: r.month_days,
-            week_days: r.week_days,
-        }),
-    }
+    recurrence.map(|r| r.pattern)
 }
 
 fn until_of(recurrence: &Option<Recurrence>) -> Option<u32>
     ensures { result ≡ until_of recurrence.now }
 {
-    match recurrence {
-        None => None,
-        Some(r) => r.until,
-    }
+    recurrence.and_then(|r| r.until)
 }
 
 fn count_of(recurrence: &Option<Recurrence>) -> Option<u32>
     ensures { result ≡ count_of recurrence.now }
 {
-    match recurrence {
-        None => None,
-        Some(r) => r.count,
-    }
+    recurrence.and_then(|r| r.count)
 }
 
 fn stop_of(until: Option<u32>) -> u32
     ensures value { result ≡ stop until }
     ensures bound { result ≤ 109573 }
 {
-    match until {
-        None => 109_573,
-        Some(day) => day.min(109_573),
-    }
-}
-
-// ---- bounds
-
-fn pattern_fits(pattern: &Option<Pattern>) -> bool
-    ensures { result ≡ pattern_bounds pattern.now }
-{
-    match pattern {
-        None => true,
-        Some(p) => p.fits(),
-    }
+    until.map_or(LAST_DAY + 1, |day| day.min(LAST_DAY + 1))
 }
 
 fn count_fits(count: Option<u32>) -> bool
     ensures { result ≡ count_bounds count }
 {
-    match count {
-        None => true,
-        Some(n) => 1 <= n && n <= 10_000,
-    }
+    count.is_none_or(|n| (1..=10_000).contains(&n))
 }
 
 fn in_bounds(start: u32, recurrence: &Option<Recurrence>) -> bool
     ensures { result ≡ in_bounds start recurrence.now }
 {
-    start <= LAST_DAY && pattern_fits(&pattern_of(recurrence)) && count_fits(count_of(recurrence))
+    start <= LAST_DAY
+        && match recurrence {
+            None => true,
+            Some(r) => r.pattern.fits() && count_fits(r.count),
+        }
 }
 
-// ---- conflicts
-
-fn pattern_suits(pattern: &Option<Pattern>) -> bool
-    ensures { result ≡ pattern_suits pattern.now }
-{
-    match pattern {
-        None => true,
-        Some(p) => p.suits(),
-    }
-}
-
+// The parts may not stand together, or two ends are given.
 fn conflicting(recurrence: &Option<Recurrence>) -> bool
     ensures { result ≡ conflict recurrence.now }
 {
-    if !pattern_suits(&pattern_of(recurrence)) {
-        return true;
+    match recurrence {
+        None => false,
+        Some(r) => !r.pattern.suits() || r.count.is_some() && r.until.is_some(),
     }
-    count_of(recurrence).is_some() && until_of(recurrence).is_some()
 }
 
-// ---- the start among the days
-
-// The start is chosen, and lies before the end.
-fn starts(pattern: &Option<Pattern>, start: u32, until: Option<u32>, count: Option<u32>) -> bool
-    requires { (start < 109573) × ((sound pattern.now ≡ true) × (count_bounds count ≡ true)) }
-    ensures { result ≡ among start (days_of pattern.now start until count) }
-{
-    if start >= stop_of(until) {
-        return false;
+impl Choice {
+    // The start is chosen, and lies before the end.
+    #[tactic(auto, using(crate::proofs::Refusals::start_told, crate::proofs::Refusals::too_late))]
+    fn starts(&self, until: Option<u32>, count: Option<u32>) -> bool
+        requires { count_bounds count ≡ true }
+        ensures { result ≡ among self.now.start (days_of self.now.pattern self.now.start until count) }
+    {
+        self.start < stop_of(until) && self.chooses(self.start)
     }
-    next_day(pattern, start, start, start + 1) == start
+
+    // Where the list ends: COUNT is settled here.
+    fn end_of(&self, until: Option<u32>, count: Option<u32>) -> u32
+        ensures low { result ≤ stop until }
+        ensures settled { days_of self.now.pattern self.now.start until count ≡ span (chooses self.now.pattern self.now.start) self.now.start result }
+    {
+        let stop = stop_of(until);
+        match count {
+            None => stop,
+            Some(n) => self.settle(stop, n),
+        }
+    }
 }
 
-fn start_listed(start: u32, recurrence: &Option<Recurrence>) -> bool
-    requires { (in_bounds start recurrence.now ≡ true) × (conflict recurrence.now ≡ false) }
-    ensures { result ≡ among start (list_of start recurrence.now) }
-{
-    let pattern = pattern_of(recurrence);
-    let until = until_of(recurrence);
-    let count = count_of(recurrence);
-    starts(&pattern, start, until, count)
-}
-
-// The first refusal that applies, or none.
-fn refused(start: u32, recurrence: &Option<Recurrence>) -> Option<Refusal>
-    ensures { result ≡ refusal start recurrence.now }
+// What chooses the days of a rule, or the first refusal that applies.
+#[tactic(auto, using(crate::proofs::Refusals::refused_bounds, crate::proofs::Refusals::refused_conflict, crate::proofs::Refusals::refused_start, crate::proofs::Refusals::refused_none, crate::proofs::Refusals::same_list))]
+fn checked(start: u32, recurrence: &Option<Recurrence>) -> Result<Choice, Refusal>
+    ensures { MatchResult result (λ choice. (refusal start recurrence.now ≡ None) × (choice.pattern ≡ pattern_of recurrence.now) × (choice.start ≡ start)) (λ e. refusal start recurrence.now ≡ Some e) }
 {
     if !in_bounds(start, recurrence) {
-        return Some(Refusal::OutOfBounds);
+        return Err(Refusal::OutOfBounds);
     }
     if conflicting(recurrence) {
-        return Some(Refusal::RuleConflict);
+        return Err(Refusal::RuleConflict);
     }
-    if !start_listed(start, recurrence) {
-        return Some(Refusal::StartNotPicked);
+    let choice = Choice {
+        pattern: pattern_of(recurrence),
+        start,
+    };
+    if !choice.starts(until_of(recurrence), count_of(recurrence)) {
+        return Err(Refusal::StartNotPicked);
     }
-    None
-}
-
-// ---- the rule
-
-// Where the list ends: COUNT is settled here.
-fn end_of(pattern: &Option<Pattern>, start: u32, until: Option<u32>, count: Option<u32>) -> u32
-    requires { (start < 109573) × (sound pattern.now ≡ true) }
-    ensures low { result ≤ stop until }
-    ensures settled { days_of pattern.now start until count ≡ span (chooses pattern.now start) start result }
-{
-    let stop = stop_of(until);
-    match count {
-        None => stop,
-        Some(n) => settle(pattern, start, stop, n),
-    }
+    Ok(choice)
 }
 
 impl Rule {
     // The rule of a start and a recurrence that nothing speaks against.
-    fn made(start: u32, recurrence: &Option<Recurrence>) -> Rule
-        requires { refusal start recurrence.now ≡ None }
-        ensures { Made start recurrence.now result }
+    fn made(choice: Choice, recurrence: &Option<Recurrence>) -> Rule
+        requires { (refusal choice.start recurrence.now ≡ None) × (choice.pattern ≡ pattern_of recurrence.now) }
+        ensures { Made choice.start recurrence.now result }
     {
-        let pattern = pattern_of(recurrence);
         let until = until_of(recurrence);
         let count = count_of(recurrence);
-        let end = end_of(&pattern, start, until, count);
         Rule {
-            pattern,
-            start,
+            choice,
             until,
             count,
-            end,
+            end: choice.end_of(until, count),
         }
     }
 
@@ -178,9 +125,7 @@ impl Rule {
     pub fn new(start: u32, recurrence: Option<Recurrence>) -> Result<Rule, Refusal>
         ensures { MakesRule start recurrence result }
     {
-        match refused(start, &recurrence) {
-            Some(refusal) => Err(refusal),
-            None => Ok(Rule::made(start, &recurrence)),
-        }
+        let choice = checked(start, &recurrence)?;
+        Ok(Rule::made(choice, &recurrence))
     }
 }

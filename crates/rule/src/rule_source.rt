@@ -1,158 +1,82 @@
-// A rule as a source of days, and its cuts.
-ghost use Rattle.std.specs.Prelude.{◌≡◌, ◌<◌, ◌≤◌, min, max, true, false, length, is_some};
+// A rule as a source of days, and its cuts. They write every field: there is no `..*self` beside ghost fields.
+ghost use Rattle.std.specs.Prelude.{◌≡◌, ◌≤◌, max};
 ghost use Rattle.source.specs.Days.{first_from, before, since};
-ghost use Rattle.rule.specs.Spans.{span, stop, First};
+ghost use Rattle.pattern.specs.First.{First};
+ghost use Rattle.rule.specs.Spans.{span};
 ghost use Rattle.rule.specs.Lists.{chooses};
-ghost use Rattle.rule.specs.Cut.{Head, Tail, days_in, lowered};
+ghost use Rattle.rule.specs.Cut.{Head, Tail, days_in, recount, lowered, reuntil};
 ghost use Rattle.rule.specs.Meaning.{ListsMeant, Ordinals};
 ghost use Rattle.rule.specs.Cuts;
 
-use crate::listing::{count_days, next_day};
+use crate::choice::Choice;
 use crate::rules::Rule;
 use calendar::days::LAST_DAY;
 use source::sources::Source;
 
 // The last day lowered to the day before `day`.
 fn lower(until: Option<u32>, day: u32) -> Option<u32>
-    ensures value { result ≡ lowered until day }
-    ensures stops { stop result ≡ min (stop until) day }
+    ensures { result ≡ lowered until day }
 {
     match until {
-        None => { if day <= LAST_DAY { Some(day) } else { None } }
+        None => (day <= LAST_DAY).then_some(day),
         Some(end) => Some(end.min(day)),
     }
 }
 
 impl Rule {
-    // The first day of the list that is not before `day`, or some day past its end.
-    fn at_or_after(&self, day: u32) -> u32
-        ensures { First (chooses self.now.pattern self.now.start) (max self.now.start day) self.now.end result }
+    // The first day of the list that is not before `day`.
+    fn at_or_after(&self, day: u32) -> Option<u32>
+        ensures { First (chooses self.now.choice.pattern self.now.choice.start) (max self.now.choice.start day) self.now.end result }
     {
-        let from = self.start.max(day);
-        if from >= self.end {
-            return from;
-        }
-        next_day(&self.pattern, self.start, from, self.end)
+        self.choice.next_day(self.choice.start.max(day), self.end)
     }
 
-    // How many days the list has before `day`.
-    fn days_before(&self, day: u32) -> u32
-        ensures { result ≡ length (span (chooses self.now.pattern self.now.start) self.now.start (min self.now.end day)) }
+    // The last day of the head before `day`.
+    fn until_before(&self, day: u32) -> Option<u32>
+        ensures { result ≡ reuntil self.now.count self.now.until day }
     {
-        count_days(&self.pattern, self.start, self.start, self.end.min(day))
-    }
-
-    // How many days the list has from one of its days on.
-    fn days_from(&self, first: u32) -> u32
-        ensures { result ≡ length (span (chooses self.now.pattern self.now.start) first self.now.end) }
-    {
-        count_days(&self.pattern, self.start, first, self.end)
-    }
-
-    // The head of a rule with COUNT, of which `left` days lie before `day`.
-    fn counted_head(&self, day: u32, left: u32) -> Rule
-        requires { (is_some self.now.count ≡ true) × (left ≡ length (span (chooses self.now.pattern self.now.start) self.now.start (min self.now.end day))) }
-        ensures { Head day self.now result }
-    {
-        Rule {
-            pattern: self.pattern,
-            start: self.start,
-            until: self.until,
-            count: Some(left),
-            end: self.end.min(day),
+        if self.count.is_some() {
+            self.until
+        } else {
+            lower(self.until, day)
         }
     }
 
-    // The head of a rule without COUNT.
-    fn open_head(&self, day: u32, until: Option<u32>) -> Rule
-        requires { (is_some self.now.count ≡ false) × ((until ≡ lowered self.now.until day) × (stop until ≡ min (stop self.now.until) day)) }
-        ensures { Head day self.now result }
+    // COUNT, if it is given, of the days from `from` on, before `end`.
+    fn count_of(&self, from: u32, end: u32) -> Option<u32>
+        requires { end ≤ 109573 }
+        ensures { result ≡ recount self.now.count (span (chooses self.now.choice.pattern self.now.choice.start) from end) }
     {
-        Rule {
-            pattern: self.pattern,
-            start: self.start,
-            until,
-            count: None,
-            end: self.end.min(day),
-        }
-    }
-
-    // The tail of a rule that has no day from `day` on.
-    fn emptied(&self, day: u32, first: u32) -> Rule
-        requires { (First (chooses self.now.pattern self.now.start) (max self.now.start day) self.now.end first) × (self.now.end ≤ first) }
-        ensures { Tail day self.now result }
-    {
-        Rule {
-            pattern: self.pattern,
-            start: self.start,
-            until: self.until,
-            count: Some(0),
-            end: 0,
-        }
-    }
-
-    // The tail of a rule with COUNT, of which `left` days are left from `first` on.
-    fn counted_tail(&self, day: u32, first: u32, left: u32) -> Rule
-        requires { (First (chooses self.now.pattern self.now.start) (max self.now.start day) self.now.end first) × ((first < self.now.end) × ((is_some self.now.count ≡ true) × (left ≡ length (span (chooses self.now.pattern self.now.start) first self.now.end)))) }
-        ensures { Tail day self.now result }
-    {
-        Rule {
-            pattern: self.pattern,
-            start: first,
-            until: self.until,
-            count: Some(left),
-            end: self.end,
-        }
-    }
-
-    // The tail of a rule without COUNT.
-    fn open_tail(&self, day: u32, first: u32) -> Rule
-        requires { (First (chooses self.now.pattern self.now.start) (max self.now.start day) self.now.end first) × ((first < self.now.end) × (is_some self.now.count ≡ false)) }
-        ensures { Tail day self.now result }
-    {
-        Rule {
-            pattern: self.pattern,
-            start: first,
-            until: self.until,
-            count: None,
-            end: self.end,
-        }
-    }
-
-    // The day found, if it lies before the end.
-    fn first_of(&self, day: u32, found: u32) -> Option<u32>
-        requires { First (chooses self.now.pattern self.now.start) (max self.now.start day) self.now.end found }
-        ensures value { result ≡ first_from day (days_in self.now) }
-        ensures meant { ListsMeant self.now }
-        ensures ordinals { Ordinals }
-    {
-        if found < self.end { Some(found) } else { None }
+        self.count.map(|_| self.choice.count_days(from, end))
     }
 }
 
 impl Source for Rule {
     ghost days = { days_in };
 
-    ghost ascending = { λ r. Cuts.ascending r.pattern r.start r.until r.count r.end r.settled };
+    ghost ascending = { λ r. Cuts.ascending r.choice.pattern r.choice.start r.until r.count r.end r.settled };
 
-    ghost bounded = { λ r. Cuts.bounded r.pattern r.start r.until r.count r.end r.settled r.range.0 r.range.1 r.range.2 };
+    ghost bounded = { λ r. Cuts.bounded r.choice.pattern r.choice.start r.until r.count r.end r.settled r.choice.begun r.range.0 r.range.1 };
 
+    #[tactic(auto, using(crate::specs::Cuts::first_is, crate::proofs::Meanings::lists_meant))]
     fn first_at(&self, day: u32) -> Option<u32>
         ensures value { result ≡ first_from day (days_in self.now) }
         ensures meant { ListsMeant self.now }
         ensures ordinals { Ordinals }
     {
-        self.first_of(day, self.at_or_after(day))
+        self.at_or_after(day)
     }
 
     fn head(&self, day: u32) -> Rule
         ensures days { days_in result ≡ before day (days_in self.now) }
         ensures parts { Head day self.now result }
     {
-        if self.count.is_some() {
-            self.counted_head(day, self.days_before(day))
-        } else {
-            self.open_head(day, lower(self.until, day))
+        let end = self.end.min(day);
+        Rule {
+            choice: self.choice,
+            until: self.until_before(day),
+            count: self.count_of(self.choice.start, end),
+            end,
         }
     }
 
@@ -160,13 +84,22 @@ impl Source for Rule {
         ensures days { days_in result ≡ since day (days_in self.now) }
         ensures parts { Tail day self.now result }
     {
-        let first = self.at_or_after(day);
-        if first >= self.end {
-            return self.emptied(day, first);
+        let Some(first) = self.at_or_after(day) else {
+            return Rule {
+                choice: self.choice,
+                until: self.until,
+                count: Some(0),
+                end: 0,
+            };
+        };
+        Rule {
+            choice: Choice {
+                pattern: self.choice.pattern,
+                start: first,
+            },
+            until: self.until,
+            count: self.count_of(first, self.end),
+            end: self.end,
         }
-        if self.count.is_some() {
-            return self.counted_tail(day, first, self.days_from(first));
-        }
-        self.open_tail(day, first)
     }
 }

@@ -5,6 +5,6 @@ pub mod WrittenLists
 pub mod WrittenEntries
 pub mod WrittenParts
 pub mod ReadsBack
-pub mod Chains
+pub mod Listing
 pub mod SameMeaning
 pub mod LinesMean

@@ -14,7 +14,6 @@ use Rattle.dates.specs.Unions.{merged}
 use Rattle.rule_text.specs.Lists.{if_some}
 use Rattle.rule_lines.specs.DayLines.{given, moment_days, unrefused, rule_days, start_days, lines_days, start_text, repeat_line, Twelve, LinesMean}
 use Rattle.rule_text.specs.Reading.{recurrence_named}
-use Rattle.rule_text.specs.Words.{same_text}
 use Rattle.rule_lines.specs.Writing.{recurrence_text, period_text, count_text, lists_text, last_text, last_known, SameParts}
 use Rattle.rule_lines.proofs.ReadsBack.{reads_back}
 use Rattle.rule_lines.proofs.SameMeaning.{same_days, same_refusal}
@@ -44,11 +43,9 @@ not_before p start x xs (suc u) count d = omega arith
 -- ---- the values of the lines
 
 alone_values : (t : List ℕ) → lines_days ((codes "DTSTART:" ++ t) ∷ []) ≡ start_days (t ∷ []) [] []
-unfolding same_text
 alone_values t = refl
 
 both_values : (t u : List ℕ) → lines_days ((codes "DTSTART:" ++ t) ∷ (codes "RRULE:" ++ u) ∷ []) ≡ start_days (t ∷ []) (u ∷ []) []
-unfolding same_text
 both_values t u = refl
 
 -- ---- the days
@@ -64,16 +61,7 @@ repeats day clock r s t e same ok =
     ∙ ap (λ q. Some q) (same_days s r same day)
 
 abbrev parts : Pattern → Option ℕ → Option ℕ → Recurrence
-parts p count until = record {
-  frequency = p.frequency;
-  interval = p.interval;
-  week_start = p.week_start;
-  count = count;
-  until = until;
-  months = p.months;
-  month_days = p.month_days;
-  week_days = p.week_days;
-}
+parts p count until = record { pattern = p; count = count; until = until }
 
 written : (p : Pattern) (count until : Option ℕ) (day clock : ℕ) → clock < 1440 → day < 109573 → Twelve (Some p) → last_known until → refusal day (Some (parts p count until)) ≡ None → lines_days ((codes "DTSTART:" ++ start_text day clock) ∷ repeat_line clock (Some (parts p count until))) ≡ Some (list_of day (Some (parts p count until)))
 written p count until day clock h k tw last ok =
@@ -135,4 +123,4 @@ by_pattern (Some p) count (Some u) day clock x xs h k tw ok d =
 pub lines_mean : LinesMean
 lines_mean clock r x xs h tw d =
     let m = remakes r x xs d in
-    by_pattern r.pattern r.count r.until r.start clock x xs h r.range.0 tw m.accepted (m.same ∙ d) ∙ ap (λ q. Some q) m.same
+    by_pattern r.choice.pattern r.count r.until r.choice.start clock x xs h r.choice.begun tw m.accepted (m.same ∙ d) ∙ ap (λ q. Some q) m.same

@@ -1,5 +1,6 @@
 -- What is written of a recurrence is read back.
 use Rattle.std.proofs.Common.{◌≡◌, ℕ, ◌-◌, ◌<◌, ◌≤◌, Bool, true, eqb, leb, List, [], ◌∷◌, ◌++◌, length, Some, None, Ok, codes, decimal, Option, unwrap_or, sym, refl, ap, ◌∙◌, ⊎_elim, arith}
+use Rattle.std.specs.List.{list_all}
 use Rattle.std.proofs.lemmas.List.{append-nil, append_assoc, length-take-le}
 use Rattle.std.proofs.lemmas.Bool.{and_parts, cases_Bool, eqb-true, leb-true, le-ltb}
 use Rattle.calendar.specs.declared.weekdays.Weekday.{Weekday}
@@ -7,17 +8,17 @@ use Rattle.calendar.specs.declared.weekdays.Weekday.TheVariants.{Monday, Tuesday
 use Rattle.notation.specs.Fields.{and_then}
 use Rattle.recurrence.specs.declared.parts.Few.{Few}
 use Rattle.recurrence.specs.declared.parts.Frequency.{Frequency}
-use Rattle.recurrence.specs.declared.parts.MonthDay.TheVariants as monthDays
+use Rattle.recurrence.specs.declared.parts.Ordinal.TheVariants.{FromStart}
 use Rattle.recurrence.specs.declared.parts.Recurrence.{Recurrence}
-use Rattle.recurrence.specs.Entries.{all, entries}
+use Rattle.recurrence.specs.Entries.{entries, none}
 use Rattle.recurrence.specs.Bounds.{within, few_fit, month_fits, month_day_fits, day_entry_fits}
 use Rattle.rule.specs.Refused.{count_bounds, in_bounds, pattern_bounds, pattern_of}
 use Rattle.calendar.specs.Years.{last_day}
 use Rattle.rule_text.specs.declared.parts.Parts.{Parts}
 use Rattle.rule_text.specs.Lists.{fields_at}
 use Rattle.rule_text.specs.Parts.{blank_day}
-use Rattle.rule_text.specs.Reading.{no_parts, parts_read, none, after_last, settled_by, ended, begun}
-use Rattle.rule_lines.specs.Writing.{month_day_text, day_entry_text, frequency_text, interval_text, week_start_text, count_text, until_text, list_text, recurrence_text, last_known, SameFew, ReadsBack}
+use Rattle.rule_text.specs.Reading.{no_parts, parts_read, after_last, settled_by, ended, begun}
+use Rattle.rule_lines.specs.Writing.{ordinal_text, day_entry_text, frequency_text, interval_text, week_start_text, count_text, until_text, list_text, recurrence_text, last_known, SameFew, ReadsBack}
 use Rattle.rule_lines.proofs.WrittenEntries as entry
 use Rattle.rule_lines.proofs.WrittenEntries.{up_to}
 use Rattle.rule_lines.proofs.WrittenLists.{Holds, few_holds}
@@ -26,20 +27,20 @@ use Rattle.rule_lines.proofs.WrittenParts.{Behind, behind_both, parts_of, interv
 -- ---- the bounds, one by one
 
 record InBounds (r : Recurrence) : Type 0 where
-  interval : r.interval ≤ 999
+  interval : r.pattern.interval ≤ 999
   count : count_bounds r.count ≡ true
-  months : few_fit month_fits r.months ≡ true
-  month_days : few_fit month_day_fits r.month_days ≡ true
-  week_days : few_fit day_entry_fits r.week_days ≡ true
+  months : few_fit month_fits r.pattern.months ≡ true
+  month_days : few_fit month_day_fits r.pattern.month_days ≡ true
+  week_days : few_fit day_entry_fits r.pattern.week_days ≡ true
 
 is_in_bounds : (start : ℕ) (r : Recurrence) → in_bounds start (Some r) ≡ true → InBounds r
 is_in_bounds start r e =
     let p = (and_parts (leb start last_day) _ e).1 in
     let q = and_parts (pattern_bounds (pattern_of (Some r))) (count_bounds r.count) p in
-    let a = and_parts (within 1 999 r.interval) _ q.0 in
-    let b = and_parts (few_fit month_fits r.months) _ a.1 in
-    let c = and_parts (few_fit month_day_fits r.month_days) _ b.1 in
-    record { interval = up_to 1 999 r.interval a.0; count = q.1; months = b.0; month_days = c.0; week_days = c.1 }
+    let a = and_parts (within 1 999 r.pattern.interval) _ q.0 in
+    let b = and_parts (few_fit month_fits r.pattern.months) _ a.1 in
+    let c = and_parts (few_fit month_day_fits r.pattern.month_days) _ b.1 in
+    record { interval = up_to 1 999 r.pattern.interval a.0; count = q.1; months = b.0; month_days = c.0; week_days = c.1 }
 
 -- ---- all parts
 
@@ -47,45 +48,45 @@ regroup : (a b c d e f g h : List ℕ) → (a ++ (b ++ c)) ++ ((d ++ e) ++ (f ++
 regroup a b c d e f g h = simp (append_assoc, append-nil)
 
 abbrev parts_in : ℕ → Recurrence → Parts
-parts_in clock r = parts_of (Some r.frequency) (interval_part r.interval) (week_start_part r.week_start) r.count (until_part clock r.until)
-    (list_part 0 (entries r.months)) (list_part (monthDays.FromStart 0) (entries r.month_days)) (list_part blank_day (entries r.week_days))
+parts_in clock r = parts_of (Some r.pattern.frequency) (interval_part r.pattern.interval) (week_start_part r.pattern.week_start) r.count (until_part clock r.until)
+    (list_part 0 (entries r.pattern.months)) (list_part (FromStart 0) (entries r.pattern.month_days)) (list_part blank_day (entries r.pattern.week_days))
 
-fits_all : {X : Type 0} (f : X → Bool) (few : Few X) → few_fit f few ≡ true → (few.len ≤ 12) × (all f (entries few) ≡ true)
-fits_all f few e = let p = and_parts (leb few.len 12) (all f (entries few)) e in (leb-true few.len 12 p.0, p.1)
+fits_all : {X : Type 0} (f : X → Bool) (few : Few X) → few_fit f few ≡ true → (few.len ≤ 12) × (list_all f (entries few) ≡ true)
+fits_all f few e = let p = and_parts (leb few.len 12) (list_all f (entries few)) e in (leb-true few.len 12 p.0, p.1)
 
 all_parts : (clock : ℕ) (r : Recurrence) → clock < 1440 → InBounds r → last_known r.until → parts_read (fields_at 59 (recurrence_text clock r)) no_parts ≡ Ok (parts_in clock r)
 unfolding recurrence_text
 all_parts clock r h b k =
-    let F = Some r.frequency in
-    let I = interval_part r.interval in
-    let W = week_start_part r.week_start in
+    let F = Some r.pattern.frequency in
+    let I = interval_part r.pattern.interval in
+    let W = week_start_part r.pattern.week_start in
     let U = until_part clock r.until in
-    let M = list_part 0 (entries r.months) in
-    let D = list_part (monthDays.FromStart 0) (entries r.month_days) in
-    let f = frequency_text r.frequency in
-    let i = interval_text r.interval in
-    let w = week_start_text r.week_start in
+    let M = list_part 0 (entries r.pattern.months) in
+    let D = list_part (FromStart 0) (entries r.pattern.month_days) in
+    let f = frequency_text r.pattern.frequency in
+    let i = interval_text r.pattern.interval in
+    let w = week_start_text r.pattern.week_start in
     let n = count_text r.count in
     let u = until_text clock r.until in
-    let m = list_text (codes ";BYMONTH=") decimal (entries r.months) in
-    let d = list_text (codes ";BYMONTHDAY=") month_day_text (entries r.month_days) in
-    let e = list_text (codes ";BYDAY=") day_entry_text (entries r.week_days) in
-    let be : Behind (e ++ []) = behind_both e [] (list_behind (codes "BYDAY=") day_entry_text (entries r.week_days)) tt in
-    let bd : Behind (d ++ (e ++ [])) = behind_both d _ (list_behind (codes "BYMONTHDAY=") month_day_text (entries r.month_days)) be in
-    let bm : Behind (m ++ (d ++ (e ++ []))) = behind_both m _ (list_behind (codes "BYMONTH=") decimal (entries r.months)) bd in
+    let m = list_text (codes ";BYMONTH=") decimal (entries r.pattern.months) in
+    let d = list_text (codes ";BYMONTHDAY=") ordinal_text (entries r.pattern.month_days) in
+    let e = list_text (codes ";BYDAY=") day_entry_text (entries r.pattern.week_days) in
+    let be : Behind (e ++ []) = behind_both e [] (list_behind (codes "BYDAY=") day_entry_text (entries r.pattern.week_days)) tt in
+    let bd : Behind (d ++ (e ++ [])) = behind_both d _ (list_behind (codes "BYMONTHDAY=") ordinal_text (entries r.pattern.month_days)) be in
+    let bm : Behind (m ++ (d ++ (e ++ []))) = behind_both m _ (list_behind (codes "BYMONTH=") decimal (entries r.pattern.months)) bd in
     let bu : Behind (u ++ (m ++ (d ++ (e ++ [])))) = behind_both u _ (until_behind clock r.until) bm in
     let bn : Behind (n ++ (u ++ (m ++ (d ++ (e ++ []))))) = behind_both n _ (count_behind r.count) bu in
-    let bw : Behind (w ++ (n ++ (u ++ (m ++ (d ++ (e ++ [])))))) = behind_both w _ (week_start_behind r.week_start) bn in
-    let bi : Behind (i ++ (w ++ (n ++ (u ++ (m ++ (d ++ (e ++ []))))))) = behind_both i _ (interval_behind r.interval) bw in
+    let bw : Behind (w ++ (n ++ (u ++ (m ++ (d ++ (e ++ [])))))) = behind_both w _ (week_start_behind r.pattern.week_start) bn in
+    let bi : Behind (i ++ (w ++ (n ++ (u ++ (m ++ (d ++ (e ++ []))))))) = behind_both i _ (interval_behind r.pattern.interval) bw in
     ap (λ xs. parts_read (fields_at 59 xs) no_parts) (regroup f i w n u m d e)
-    ∙ frequency_read r.frequency _ bi
-    ∙ interval_read F r.interval _ b.interval bw
-    ∙ week_start_read F I r.week_start _ bn
+    ∙ frequency_read r.pattern.frequency _ bi
+    ∙ interval_read F r.pattern.interval _ b.interval bw
+    ∙ week_start_read F I r.pattern.week_start _ bn
     ∙ count_read F I W r.count _ b.count bu
     ∙ until_read F I W r.count clock r.until _ h k bm
-    ∙ months_read F I W r.count U (entries r.months) _ (entry.months_read _ (fits_all month_fits r.months b.months).1) bd
-    ∙ month_days_read F I W r.count U M (entries r.month_days) _ (entry.month_days_read _ (fits_all month_day_fits r.month_days b.month_days).1) be
-    ∙ week_days_read F I W r.count U M D (entries r.week_days) [] (entry.day_entries_read _ (fits_all day_entry_fits r.week_days b.week_days).1) tt
+    ∙ months_read F I W r.count U (entries r.pattern.months) _ (entry.months_read _ (fits_all month_fits r.pattern.months b.months).1) bd
+    ∙ month_days_read F I W r.count U M (entries r.pattern.month_days) _ (entry.month_days_read _ (fits_all month_day_fits r.pattern.month_days b.month_days).1) be
+    ∙ week_days_read F I W r.count U M D (entries r.pattern.week_days) [] (entry.day_entries_read _ (fits_all day_entry_fits r.pattern.week_days b.week_days).1) tt
 
 -- ---- the recurrence of the parts
 
@@ -129,16 +130,16 @@ pub reads_back : ReadsBack
 reads_back clock start r w =
     let b = is_in_bounds start r w.bounds in
     let p = parts_in clock r in (
-      settled_by r.frequency (until_back clock r.until) p,
-      ap (λ q. and_then q (λ z. begun z.frequency clock z)) (all_parts clock r w.minute b w.last) ∙ ends r.frequency clock r.until p,
+      settled_by r.pattern.frequency (until_back clock r.until) p,
+      ap (λ q. and_then q (λ z. begun z.frequency clock z)) (all_parts clock r w.minute b w.last) ∙ ends r.pattern.frequency clock r.until p,
       record {
         frequency = refl;
-        interval = same_interval r.interval;
-        week_start = same_week_start r.week_start;
+        interval = same_interval r.pattern.interval;
+        week_start = same_week_start r.pattern.week_start;
         count = refl;
         until = same_until clock r.until w.last;
-        months = same_few 0 month_fits r.months b.months w.months;
-        month_days = same_few (monthDays.FromStart 0) month_day_fits r.month_days b.month_days w.month_days;
-        week_days = same_few blank_day day_entry_fits r.week_days b.week_days w.week_days;
+        months = same_few 0 month_fits r.pattern.months b.months w.months;
+        month_days = same_few (FromStart 0) month_day_fits r.pattern.month_days b.month_days w.month_days;
+        week_days = same_few blank_day day_entry_fits r.pattern.week_days b.week_days w.week_days;
       },
     )

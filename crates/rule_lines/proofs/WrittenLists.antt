@@ -5,9 +5,8 @@ use Rattle.std.proofs.ByRecursion.{All-append, All-weaker}
 use Rattle.std.proofs.lemmas.List.{append-nil, append_assoc, length_push, length-set, length-replicate, take_more_set}
 use Rattle.std.proofs.lemmas.Bool.{lt-ltb}
 use Rattle.recurrence.specs.declared.parts.Few.{Few}
-use Rattle.recurrence.specs.Entries.{entries}
+use Rattle.recurrence.specs.Entries.{entries, none}
 use Rattle.rule_text.specs.Lists.{pushed, entries_named, few_named}
-use Rattle.rule_text.specs.Reading.{none}
 use Rattle.rule_lines.proofs.Separated.{Lacks, fields_joined}
 use Rattle.rule_lines.proofs.WrittenNumbers.{Plain}
 

@@ -7,7 +7,7 @@ use Rattle.std.proofs.lemmas.Str.Parse.{IsNumeralModel, numerals_by_fold}
 use Rattle.std.proofs.lemmas.Bool.{and_parts, le-leb, ne_eqb}
 use Rattle.notation.specs.Digits.{is_digit, all_digits, value_from, numeral, capped}
 use Rattle.notation.proofs.Values.{digit_range}
-use Rattle.rule_text.specs.Entries.{signed, ordinal_named}
+use Rattle.rule_text.specs.Entries.{signed}
 use Rattle.recurrence.specs.declared.parts.Ordinal.TheVariants.{FromStart, FromEnd}
 
 -- neither a comma nor a semicolon
@@ -45,22 +45,15 @@ decimal_capped n h =
     rw (le-leb 1 (length (decimal n)) (decimal_nonempty n (omega arith)), decimal_digits n (omega arith), decimal_value n (omega arith)) (ap (λ k. Some k) e)
 
 -- without a sign
-unsigned : {X : Type 0} (start end : ℕ → X) (ds : List ℕ) → all_digits ds ≡ true → 0 < length ds → signed start end ds ≡ option_map start (numeral 1 2 ds)
-unsigned start end [] e h = absurd (omega arith)
-unsigned start end (x ∷ xs) e h =
+unsigned : (ds : List ℕ) → all_digits ds ≡ true → 0 < length ds → signed ds ≡ option_map FromStart (numeral 1 2 ds)
+unsigned [] e h = absurd (omega arith)
+unsigned (x ∷ xs) e h =
     let r = digit_range x (and_parts (is_digit x) (all_digits xs) e).0 in
     rw (ne_eqb x 45 (λ q. omega (arith, r.0)), ne_eqb x 43 (λ q. omega (arith, r.0))) refl
 
-module _ {X : Type 0} (start end : ℕ → X) (n : ℕ) (h : n < 100) where
-  pub from_start : signed start end (decimal n) ≡ Some (start n)
-  from_start = unsigned start end (decimal n) (decimal_digits n (omega arith)) (decimal_nonempty n (omega arith)) ∙ ap (option_map start) (decimal_short n h)
+module _ (n : ℕ) (h : n < 100) where
+  pub from_start : signed (decimal n) ≡ Some (FromStart n)
+  from_start = unsigned (decimal n) (decimal_digits n (omega arith)) (decimal_nonempty n (omega arith)) ∙ ap (option_map FromStart) (decimal_short n h)
 
-  pub from_end : signed start end (45 ∷ decimal n) ≡ Some (end n)
-  from_end = ap (option_map end) (decimal_short n h)
-
-ordinal_some : (ds : List ℕ) → 0 < length ds → ordinal_named ds ≡ signed FromStart FromEnd ds
-ordinal_some [] h = absurd (omega arith)
-ordinal_some (x ∷ xs) h = refl
-
-pub ordinal_start : (n : ℕ) → n < 100 → ordinal_named (decimal n) ≡ Some (FromStart n)
-ordinal_start n h = ordinal_some (decimal n) (decimal_nonempty n (omega arith)) ∙ from_start FromStart FromEnd n h
+  pub from_end : signed (45 ∷ decimal n) ≡ Some (FromEnd n)
+  from_end = ap (option_map FromEnd) (decimal_short n h)

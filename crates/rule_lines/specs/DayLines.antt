@@ -1,6 +1,7 @@
 -- What the lines DTSTART, RRULE and RDATE say of the days of a series, and the lines of a rule.
 use Rattle.std.specs.Prelude.{◌≡◌, ℕ, ◌<◌, cond, List, [], ◌∷◌, ◌++◌, length, Some, None, Ok, Err, codes, Option, Result, ◌==◌}
 use Rattle.std.specs.List.{flat_map}
+use Rattle.std.specs.Str.{bytes_eq}
 use Rattle.std.specs.Option.{option_map}
 use Rattle.calendar.specs.declared.starts.Moment.{Moment}
 use Rattle.calendar.specs.Dates.{date_of}
@@ -17,14 +18,13 @@ use Rattle.rule.specs.Remade.{recurrence_in}
 use Rattle.dates.specs.Unions.{slot, merged}
 use Rattle.rule_text.specs.Lists.{fields_at, if_some}
 use Rattle.rule_text.specs.Reading.{recurrence_named}
-use Rattle.rule_text.specs.Words.{same_text}
 use Rattle.rule_lines.specs.Writing.{recurrence_text}
 
 -- ---- the values of the lines
 
 abbrev pub value_first : List ℕ → Option (List ℕ × List ℕ) → List (List ℕ) → List (List ℕ)
 value_first name None values = values
-value_first name (Some f) values = cond (same_text f.0 name) (f.1 ∷ values) values
+value_first name (Some f) values = cond (bytes_eq f.0 name) (f.1 ∷ values) values
 
 -- what stands behind the colon of each line of that name
 abbrev pub values_of : List ℕ → List (List ℕ) → List (List ℕ)
@@ -78,7 +78,7 @@ repeat_line clock (Some r) = (codes "RRULE:" ++ recurrence_text clock r) ∷ []
 
 -- DTSTART, and RRULE if the rule recurs
 abbrev pub rule_lines : ℕ → Rule → List (List ℕ)
-rule_lines clock r = (codes "DTSTART:" ++ start_text r.start clock) ∷ repeat_line clock (recurrence_in r)
+rule_lines clock r = (codes "DTSTART:" ++ start_text r.choice.start clock) ∷ repeat_line clock (recurrence_in r)
 
 -- ---- a rule's lines mean its days
 
@@ -89,4 +89,4 @@ Twelve (Some p) = (length p.months.items ≡ 12) × (length p.month_days.items �
 
 -- of a rule with days, at a minute of the day
 abbrev pub LinesMean : Type 0
-LinesMean = (clock : ℕ) (r : Rule) (x : ℕ) (xs : List ℕ) → clock < 1440 → Twelve r.pattern → days_in r ≡ x ∷ xs → lines_days (rule_lines clock r) ≡ Some (days_in r)
+LinesMean = (clock : ℕ) (r : Rule) (x : ℕ) (xs : List ℕ) → clock < 1440 → Twelve r.choice.pattern → days_in r ≡ x ∷ xs → lines_days (rule_lines clock r) ≡ Some (days_in r)

@@ -10,10 +10,8 @@ use Rattle.recurrence.specs.declared.parts.DayEntry.{DayEntry}
 use Rattle.recurrence.specs.declared.parts.Few.{Few}
 use Rattle.recurrence.specs.declared.parts.Frequency.{Frequency}
 use Rattle.recurrence.specs.declared.parts.Frequency.TheVariants.{Daily, Weekly, Monthly, Yearly}
-use Rattle.recurrence.specs.declared.parts.MonthDay.{MonthDay}
-use Rattle.recurrence.specs.declared.parts.MonthDay.TheVariants as monthDays
 use Rattle.recurrence.specs.declared.parts.Ordinal.{Ordinal}
-use Rattle.recurrence.specs.declared.parts.Ordinal.TheVariants.{Every, FromStart, FromEnd}
+use Rattle.recurrence.specs.declared.parts.Ordinal.TheVariants.{FromStart, FromEnd}
 use Rattle.recurrence.specs.declared.parts.Recurrence.{Recurrence}
 use Rattle.recurrence.specs.Entries.{entries}
 use Rattle.rule.specs.Refused.{in_bounds, list_of, refusal}
@@ -21,14 +19,14 @@ use Rattle.rule_text.specs.Reading.{recurrence_named}
 
 -- ---- the entries of the lists
 
-abbrev pub month_day_text : MonthDay → List ℕ
-month_day_text (monthDays.FromStart n) = decimal n
-month_day_text (monthDays.FromEnd n) = 45 ∷ decimal n
-
 abbrev pub ordinal_text : Ordinal → List ℕ
-ordinal_text Every = []
 ordinal_text (FromStart n) = decimal n
 ordinal_text (FromEnd n) = 45 ∷ decimal n
+
+-- of nothing, nothing
+abbrev pub text_if : {X : Type 0} → (X → List ℕ) → Option X → List ℕ
+text_if text None = []
+text_if text (Some x) = text x
 
 abbrev pub weekday_text : Weekday → List ℕ
 weekday_text Monday = codes "MO"
@@ -40,7 +38,7 @@ weekday_text Saturday = codes "SA"
 weekday_text Sunday = codes "SU"
 
 abbrev pub day_entry_text : DayEntry → List ℕ
-day_entry_text e = ordinal_text e.ordinal ++ weekday_text e.weekday
+day_entry_text e = text_if ordinal_text e.ordinal ++ weekday_text e.weekday
 
 -- ---- the parts; each but the first begins with a semicolon, and is empty where it is not given
 
@@ -85,7 +83,7 @@ list_text name text (x ∷ xs) = name ++ (text x ++ flat_map (λ y. 44 ∷ text 
 
 -- FREQ, INTERVAL, WKST
 abbrev pub period_text : Recurrence → List ℕ
-period_text r = frequency_text r.frequency ++ (interval_text r.interval ++ week_start_text r.week_start)
+period_text r = frequency_text r.pattern.frequency ++ (interval_text r.pattern.interval ++ week_start_text r.pattern.week_start)
 
 -- COUNT, UNTIL
 abbrev pub end_text : ℕ → Recurrence → List ℕ
@@ -94,9 +92,9 @@ end_text clock r = count_text r.count ++ until_text clock r.until
 -- BYMONTH, BYMONTHDAY, BYDAY
 abbrev pub lists_text : Recurrence → List ℕ
 lists_text r =
-    list_text (codes ";BYMONTH=") decimal (entries r.months) ++
-    (list_text (codes ";BYMONTHDAY=") month_day_text (entries r.month_days) ++
-    list_text (codes ";BYDAY=") day_entry_text (entries r.week_days))
+    list_text (codes ";BYMONTH=") decimal (entries r.pattern.months) ++
+    (list_text (codes ";BYMONTHDAY=") ordinal_text (entries r.pattern.month_days) ++
+    list_text (codes ";BYDAY=") day_entry_text (entries r.pattern.week_days))
 
 unfoldable pub recurrence_text : ℕ → Recurrence → List ℕ
 recurrence_text clock r = period_text r ++ (end_text clock r ++ lists_text r)
@@ -113,9 +111,9 @@ pub record Writable (clock start : ℕ) (r : Recurrence) : Type 0 where
   pub minute : clock < 1440
   pub bounds : in_bounds start (Some r) ≡ true
   pub last : last_known r.until
-  pub months : length r.months.items ≡ 12
-  pub month_days : length r.month_days.items ≡ 12
-  pub week_days : length r.week_days.items ≡ 12
+  pub months : length r.pattern.months.items ≡ 12
+  pub month_days : length r.pattern.month_days.items ≡ 12
+  pub week_days : length r.pattern.week_days.items ≡ 12
 
 -- the same entries
 pub record SameFew {X : Type 0} (a b : Few X) : Type 0 where
@@ -124,14 +122,14 @@ pub record SameFew {X : Type 0} (a b : Few X) : Type 0 where
 
 -- the same parts; the items past the entries mean nothing
 pub record SameParts (a b : Recurrence) : Type 0 where
-  pub frequency : a.frequency ≡ b.frequency
-  pub interval : a.interval ≡ b.interval
-  pub week_start : a.week_start ≡ b.week_start
+  pub frequency : a.pattern.frequency ≡ b.pattern.frequency
+  pub interval : a.pattern.interval ≡ b.pattern.interval
+  pub week_start : a.pattern.week_start ≡ b.pattern.week_start
   pub count : a.count ≡ b.count
   pub until : a.until ≡ b.until
-  pub months : SameFew a.months b.months
-  pub month_days : SameFew a.month_days b.month_days
-  pub week_days : SameFew a.week_days b.week_days
+  pub months : SameFew a.pattern.months b.pattern.months
+  pub month_days : SameFew a.pattern.month_days b.pattern.month_days
+  pub week_days : SameFew a.pattern.week_days b.pattern.week_days
 
 abbrev pub ReadsBack : Type 0
 ReadsBack = (clock start : ℕ) (r : Recurrence) → Writable clock start r → (s : Recurrence) × (recurrence_named clock (recurrence_text clock r) ≡ Ok s) × SameParts s r

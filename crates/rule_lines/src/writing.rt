@@ -1,21 +1,19 @@
 // A recurrence on a page.
-ghost use Rattle.std.specs.Prelude.{◌≡◌, ◌∷◌, ◌++◌, Some, codes, MatchResult};
-ghost use Rattle.page.specs.Lines.{clock_text};
-ghost use Rattle.page.specs.Pages.{Added, Full, Kept, Short};
-ghost use Rattle.rule_lines.specs.Writing.{frequency_text, interval_text, week_start_text, count_text, last_text, until_text, period_text, end_text, lists_text, recurrence_text, ReadsBack, SameDays};
+ghost use Rattle.std.specs.Prelude.{◌≡◌, MatchResult};
+ghost use Rattle.page.specs.Pages.{Stays, Puts, Breaks, Lacks};
+ghost use Rattle.rule_lines.specs.Writing.{frequency_text, interval_text, week_start_text, count_text, until_text, period_text, end_text, lists_text, recurrence_text, ReadsBack, SameDays};
 ghost use Rattle.rule.specs.Remade.{recurrence_in};
 ghost use Rattle.rule_lines.specs.DayLines.{rule_text, LinesMean};
 
-use crate::entry_texts::put_few;
-use calendar::date::Date;
+use crate::entry_texts::{put_list, weekday_octets};
 use calendar::days::date_of;
 use calendar::weekdays::Weekday;
-use page::numbers::{put_clock, put_date, put_decimal};
-use page::pages::{Guard, put};
+use page::pages::Page;
 use recurrence::parts::{Frequency, Recurrence};
 use refusal::Refusal;
 use rule::rules::Rule;
 
+// Octets for a page, which takes no Display.
 fn frequency_octets(frequency: Frequency) -> &'static [u8]
     ensures { result.now ≡ frequency_text frequency }
 {
@@ -27,174 +25,118 @@ fn frequency_octets(frequency: Frequency) -> &'static [u8]
     }
 }
 
-fn week_start_octets(week_start: Weekday) -> &'static [u8]
-    ensures { result.now ≡ week_start_text week_start }
-{
-    match week_start {
-        Weekday::Monday => b"",
-        Weekday::Tuesday => b";WKST=TU",
-        Weekday::Wednesday => b";WKST=WE",
-        Weekday::Thursday => b";WKST=TH",
-        Weekday::Friday => b";WKST=FR",
-        Weekday::Saturday => b";WKST=SA",
-        Weekday::Sunday => b";WKST=SU",
-    }
-}
-
 // Adds the interval, unless it is 1.
-fn put_interval(octets: &mut [u8], len: &mut usize, interval: u32) -> Result<(), Refusal>
-    ensures kept { Kept octets.old octets.new len.old }
-    ensures cases { MatchResult result (λ _. Added (interval_text interval) octets.old octets.new len.old len.new) (λ e. Short (interval_text interval) octets.old len.old e) }
+fn put_interval(page: &mut Page, interval: u32) -> Result<(), Refusal>
+    ensures stays { Stays page.old page.new }
+    ensures cases { MatchResult result (λ _. Puts (interval_text interval) page.old page.new) (λ e. Breaks (interval_text interval) page.old e) }
 {
     if interval == 1 {
-        return put(octets, len, b"");
+        return page.put(b"");
     }
-    put(octets, len, b";INTERVAL=")?;
-    put_decimal(octets, len, interval as usize)
+    page.put(b";INTERVAL=")?;
+    page.put_decimal(interval as usize)
+}
+
+// Adds the first day of the week, unless it is Monday.
+fn put_week_start(page: &mut Page, week_start: Weekday) -> Result<(), Refusal>
+    ensures stays { Stays page.old page.new }
+    ensures cases { MatchResult result (λ _. Puts (week_start_text week_start) page.old page.new) (λ e. Breaks (week_start_text week_start) page.old e) }
+{
+    if week_start == Weekday::Monday {
+        return page.put(b"");
+    }
+    page.put(b";WKST=")?;
+    page.put(weekday_octets(week_start))
 }
 
 // Adds FREQ, INTERVAL and WKST.
-fn put_period(octets: &mut [u8], len: &mut usize, recurrence: &Recurrence) -> Result<(), Refusal>
-    ensures kept { Kept octets.old octets.new len.old }
-    ensures cases { MatchResult result (λ _. Added (period_text recurrence.now) octets.old octets.new len.old len.new) (λ e. Short (period_text recurrence.now) octets.old len.old e) }
+fn put_period(page: &mut Page, recurrence: &Recurrence) -> Result<(), Refusal>
+    ensures stays { Stays page.old page.new }
+    ensures cases { MatchResult result (λ _. Puts (period_text recurrence.now) page.old page.new) (λ e. Breaks (period_text recurrence.now) page.old e) }
 {
-    put(octets, len, frequency_octets(recurrence.frequency))?;
-    put_interval(octets, len, recurrence.interval)?;
-    put(octets, len, week_start_octets(recurrence.week_start))
+    page.put(frequency_octets(recurrence.pattern.frequency))?;
+    put_interval(page, recurrence.pattern.interval)?;
+    put_week_start(page, recurrence.pattern.week_start)
 }
 
-fn put_count(octets: &mut [u8], len: &mut usize, count: Option<u32>) -> Result<(), Refusal>
-    ensures kept { Kept octets.old octets.new len.old }
-    ensures cases { MatchResult result (λ _. Added (count_text count) octets.old octets.new len.old len.new) (λ e. Short (count_text count) octets.old len.old e) }
+fn put_count(page: &mut Page, count: Option<u32>) -> Result<(), Refusal>
+    ensures stays { Stays page.old page.new }
+    ensures cases { MatchResult result (λ _. Puts (count_text count) page.old page.new) (λ e. Breaks (count_text count) page.old e) }
 {
     let Some(n) = count else {
-        return put(octets, len, b"");
+        return page.put(b"");
     };
-    put(octets, len, b";COUNT=")?;
-    put_decimal(octets, len, n as usize)
-}
-
-// Adds the time of UNTIL.
-fn put_time(octets: &mut [u8], len: &mut usize, clock: u16) -> Result<(), Refusal>
-    ensures kept { Kept octets.old octets.new len.old }
-    ensures cases { MatchResult result (λ _. Added (84 ∷ (clock_text clock ++ codes "00")) octets.old octets.new len.old len.new) (λ e. Short (84 ∷ (clock_text clock ++ codes "00")) octets.old len.old e) }
-{
-    put(octets, len, b"T")?;
-    put_clock(octets, len, clock)?;
-    put(octets, len, b"00")
+    page.put(b";COUNT=")?;
+    page.put_decimal(n as usize)
 }
 
 // Adds UNTIL, by the date of the last day.
-fn put_last(octets: &mut [u8], len: &mut usize, date: Date, clock: u16) -> Result<(), Refusal>
-    ensures kept { Kept octets.old octets.new len.old }
-    ensures cases { MatchResult result (λ _. Added (last_text clock (Some date)) octets.old octets.new len.old len.new) (λ e. Short (last_text clock (Some date)) octets.old len.old e) }
+fn put_until(page: &mut Page, until: Option<u32>, clock: u16) -> Result<(), Refusal>
+    ensures stays { Stays page.old page.new }
+    ensures cases { MatchResult result (λ _. Puts (until_text clock until) page.old page.new) (λ e. Breaks (until_text clock until) page.old e) }
 {
-    put(octets, len, b";UNTIL=")?;
-    put_date(octets, len, date)?;
-    put_time(octets, len, clock)
-}
-
-fn put_until(
-    octets: &mut [u8],
-    len: &mut usize,
-    until: Option<u32>,
-    clock: u16,
-) -> Result<(), Refusal>
-    ensures kept { Kept octets.old octets.new len.old }
-    ensures cases { MatchResult result (λ _. Added (until_text clock until) octets.old octets.new len.old len.new) (λ e. Short (until_text clock until) octets.old len.old e) }
-{
-    let Some(end) = until else {
-        return put(octets, len, b"");
+    let Some(date) = until.and_then(|end| date_of(end.saturating_sub(1))) else {
+        return page.put(b"");
     };
-    let Some(date) = date_of(end.saturating_sub(1)) else {
-        return put(octets, len, b"");
-    };
-    put_last(octets, len, date, clock)
+    page.put(b";UNTIL=")?;
+    page.put_date(date)?;
+    page.put(b"T")?;
+    page.put_clock(clock)?;
+    page.put(b"00")
 }
 
 // Adds COUNT and UNTIL.
-fn put_end(
-    octets: &mut [u8],
-    len: &mut usize,
-    recurrence: &Recurrence,
-    clock: u16,
-) -> Result<(), Refusal>
-    ensures kept { Kept octets.old octets.new len.old }
-    ensures cases { MatchResult result (λ _. Added (end_text clock recurrence.now) octets.old octets.new len.old len.new) (λ e. Short (end_text clock recurrence.now) octets.old len.old e) }
+fn put_end(page: &mut Page, recurrence: &Recurrence, clock: u16) -> Result<(), Refusal>
+    ensures stays { Stays page.old page.new }
+    ensures cases { MatchResult result (λ _. Puts (end_text clock recurrence.now) page.old page.new) (λ e. Breaks (end_text clock recurrence.now) page.old e) }
 {
-    put_count(octets, len, recurrence.count)?;
-    put_until(octets, len, recurrence.until, clock)
+    put_count(page, recurrence.count)?;
+    put_until(page, recurrence.until, clock)
 }
 
 // Adds BYMONTH, BYMONTHDAY and BYDAY.
-fn put_lists(octets: &mut [u8], len: &mut usize, recurrence: &Recurrence) -> Result<(), Refusal>
-    ensures kept { Kept octets.old octets.new len.old }
-    ensures cases { MatchResult result (λ _. Added (lists_text recurrence.now) octets.old octets.new len.old len.new) (λ e. Short (lists_text recurrence.now) octets.old len.old e) }
+fn put_lists(page: &mut Page, recurrence: &Recurrence) -> Result<(), Refusal>
+    ensures stays { Stays page.old page.new }
+    ensures cases { MatchResult result (λ _. Puts (lists_text recurrence.now) page.old page.new) (λ e. Breaks (lists_text recurrence.now) page.old e) }
 {
-    put_few(octets, len, b";BYMONTH=", &recurrence.months)?;
-    put_few(octets, len, b";BYMONTHDAY=", &recurrence.month_days)?;
-    put_few(octets, len, b";BYDAY=", &recurrence.week_days)
+    put_list(page, b";BYMONTH=", recurrence.pattern.months.as_slice())?;
+    put_list(
+        page,
+        b";BYMONTHDAY=",
+        recurrence.pattern.month_days.as_slice(),
+    )?;
+    put_list(page, b";BYDAY=", recurrence.pattern.week_days.as_slice())
 }
 
 // Adds all parts; a refusal leaves those before it.
-fn put_parts(
-    octets: &mut [u8],
-    len: &mut usize,
-    recurrence: &Recurrence,
-    clock: u16,
-) -> Result<(), Refusal>
-    ensures kept { Kept octets.old octets.new len.old }
-    ensures cases { MatchResult result (λ _. Added (recurrence_text clock recurrence.now) octets.old octets.new len.old len.new) (λ e. Short (recurrence_text clock recurrence.now) octets.old len.old e) }
+#[tactic(auto, unfolding(crate::specs::Writing::recurrence_text))]
+fn put_parts(page: &mut Page, recurrence: &Recurrence, clock: u16) -> Result<(), Refusal>
+    ensures stays { Stays page.old page.new }
+    ensures cases { MatchResult result (λ _. Puts (recurrence_text clock recurrence.now) page.old page.new) (λ e. Breaks (recurrence_text clock recurrence.now) page.old e) }
 {
-    put_period(octets, len, recurrence)?;
-    put_end(octets, len, recurrence, clock)?;
-    put_lists(octets, len, recurrence)
+    put_period(page, recurrence)?;
+    put_end(page, recurrence, clock)?;
+    put_lists(page, recurrence)
 }
-
-// That what is written of a recurrence in bounds is read back, and means the same days.
-fn reads_back()
-    ensures back { ReadsBack }
-    ensures days { SameDays }
-{}
 
 // Adds the text of a recurrence: all of it, or nothing.
-pub fn put_recurrence(
-    octets: &mut [u8],
-    len: &mut usize,
-    recurrence: &Recurrence,
-    clock: u16,
-) -> Result<(), Refusal>
-    ensures kept { Kept octets.old octets.new len.old }
-    ensures cases { MatchResult result (λ _. Added (recurrence_text clock recurrence.now) octets.old octets.new len.old len.new) (λ e. Full (recurrence_text clock recurrence.now) octets.old len.old len.new e) }
+pub fn put_recurrence(page: &mut Page, recurrence: &Recurrence, clock: u16) -> Result<(), Refusal>
+    ensures stays { Stays page.old page.new }
+    ensures cases { MatchResult result (λ _. Puts (recurrence_text clock recurrence.now) page.old page.new) (λ e. Lacks (recurrence_text clock recurrence.now) page.old page.new e) }
     ensures back { ReadsBack }
     ensures days { SameDays }
 {
-    reads_back();
-    let start = *len;
-    let mut guard = Guard {
-        len,
-        start,
-        done: false,
-    };
-    put_parts(octets, guard.len, recurrence, clock)?;
-    guard.done = true;
-    Ok(())
+    page.whole(|page| put_parts(page, recurrence, clock))
 }
 
-// That the lines of a rule mean its days.
-fn lines_mean()
-    ensures { LinesMean }
-{}
-
 // Adds the text of a rule's recurrence, of a rule without one nothing.
-pub fn put_rule(octets: &mut [u8], len: &mut usize, rule: &Rule, clock: u16) -> Result<(), Refusal>
-    ensures kept { Kept octets.old octets.new len.old }
-    ensures cases { MatchResult result (λ _. Added (rule_text clock (recurrence_in rule.now)) octets.old octets.new len.old len.new) (λ e. Full (rule_text clock (recurrence_in rule.now)) octets.old len.old len.new e) }
+pub fn put_rule(page: &mut Page, rule: &Rule, clock: u16) -> Result<(), Refusal>
+    ensures stays { Stays page.old page.new }
+    ensures cases { MatchResult result (λ _. Puts (rule_text clock (recurrence_in rule.now)) page.old page.new) (λ e. Lacks (rule_text clock (recurrence_in rule.now)) page.old page.new e) }
     ensures lines { LinesMean }
 {
-    lines_mean();
     match rule.recurrence() {
-        None => put(octets, len, b""),
-        Some(recurrence) => put_recurrence(octets, len, &recurrence, clock),
+        None => page.put(b""),
+        Some(recurrence) => put_recurrence(page, &recurrence, clock),
     }
 }

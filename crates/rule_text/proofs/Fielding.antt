@@ -1,7 +1,5 @@
 -- Fields one by one: what a cut at the first mark leaves.
 use Rattle.std.proofs.Common.{◌≡◌, ℕ, ◌+◌, ◌≤◌, List, [], ◌∷◌, length, Some, None, Option, refl, ap, ◌∙◌, ⊎_elim, arith}
-use Rattle.std.proofs.lemmas.List.{length-append}
-use Rattle.notation.proofs.Cuts.{cut_joins}
 use Rattle.std.specs.Option.{option_map}
 use Rattle.std.proofs.lemmas.Bool.Decides.{eqb_tells}
 use Rattle.notation.specs.Fields.{cut_at}
@@ -30,6 +28,15 @@ one_field x xs e = fields_cut x xs ∙ ap (fielded x xs) e
 pub more_fields : (x : ℕ) (xs a b : List ℕ) → cut_at x xs ≡ Some (a, b) → fields_at x xs ≡ a ∷ fields_at x b
 more_fields x xs a b e = fields_cut x xs ∙ ap (fielded x xs) e
 
--- what is left is shorter
-pub rest_shorter : (x : ℕ) (xs a b : List ℕ) → cut_at x xs ≡ Some (a, b) → length b + 1 ≤ length xs
-rest_shorter x xs a b e = omega (arith, ap length (cut_joins x xs a b e), length-append a (x ∷ b))
+longer : (y : ℕ) (fs : List (List ℕ)) → length (extended y fs) ≤ length fs + 1
+longer y [] = omega arith
+longer y (f ∷ fs) = omega arith
+
+-- one field more than marks at the most
+pub fields_within : (x : ℕ) (xs : List ℕ) → length (fields_at x xs) ≤ length xs + 1
+fields_within x [] = omega arith
+fields_within x (y ∷ ys) =
+    ⊎_elim
+    (λ t. rw t.0 (omega (arith, fields_within x ys)))
+    (λ f. rw f.0 (omega (arith, fields_within x ys, longer y (fields_at x ys))))
+    (eqb_tells y x)

@@ -1,2 +1,2 @@
-pub mod Sames
 pub mod Fielding
+pub mod Keywords

@@ -3,10 +3,8 @@ use Rattle.std.specs.Prelude.{ℕ, ◌-◌, cond, List, [], ◌∷◌, length, t
 use Rattle.std.specs.Option.{option_map}
 use Rattle.calendar.specs.declared.weekdays.Weekday.{Weekday}
 use Rattle.notation.specs.Digits.{numeral}
-use Rattle.recurrence.specs.declared.parts.MonthDay.{MonthDay}
-use Rattle.recurrence.specs.declared.parts.MonthDay.TheVariants as monthDays
 use Rattle.recurrence.specs.declared.parts.Ordinal.{Ordinal}
-use Rattle.recurrence.specs.declared.parts.Ordinal.TheVariants.{Every, FromStart, FromEnd}
+use Rattle.recurrence.specs.declared.parts.Ordinal.TheVariants.{FromStart, FromEnd}
 use Rattle.recurrence.specs.declared.parts.DayEntry.{DayEntry}
 use Rattle.rule_text.specs.Words.{weekday_named}
 
@@ -15,18 +13,19 @@ abbrev pub month_named : List ℕ → Option ℕ
 month_named xs = numeral 1 2 xs
 
 -- one or two digits behind a sign, if there is one: a minus counts from the end
-abbrev pub signed : {X : Type 0} → (ℕ → X) → (ℕ → X) → List ℕ → Option X
-signed start end [] = None
-signed start end (x ∷ xs) = cond (x == 45) (option_map end (numeral 1 2 xs)) (cond (x == 43) (option_map start (numeral 1 2 xs)) (option_map start (numeral 1 2 (x ∷ xs))))
+abbrev pub signed : List ℕ → Option Ordinal
+signed [] = None
+signed (x ∷ xs) = cond (x == 45) (option_map FromEnd (numeral 1 2 xs)) (cond (x == 43) (option_map FromStart (numeral 1 2 xs)) (option_map FromStart (numeral 1 2 (x ∷ xs))))
 
-abbrev pub month_day_named : List ℕ → Option MonthDay
-month_day_named xs = signed monthDays.FromStart monthDays.FromEnd xs
+abbrev pub month_day_named : List ℕ → Option Ordinal
+month_day_named xs = signed xs
 
-abbrev pub ordinal_named : List ℕ → Option Ordinal
-ordinal_named [] = Some Every
-ordinal_named (x ∷ xs) = signed FromStart FromEnd (x ∷ xs)
+-- nothing names every such weekday
+abbrev pub ordinal_named : List ℕ → Option (Option Ordinal)
+ordinal_named [] = Some None
+ordinal_named (x ∷ xs) = option_map Some (signed (x ∷ xs))
 
-abbrev pub both : Option Ordinal → Option Weekday → Option DayEntry
+abbrev pub both : Option (Option Ordinal) → Option Weekday → Option DayEntry
 both None w = None
 both (Some o) None = None
 both (Some o) (Some w) = Some (record { weekday = w; ordinal = o })

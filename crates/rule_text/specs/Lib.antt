@@ -1,5 +1,6 @@
 pub mod Words
 pub mod Entries
 pub mod Lists
+pub mod Fields
 pub mod Parts
 pub mod Reading

@@ -1,6 +1,7 @@
 -- Lists of entries, parted by commas.
-use Rattle.std.specs.Prelude.{ℕ, ◌+◌, cond, List, [], ◌∷◌, replicate, Some, None, Option, ◌==◌, nat_lt, slice_set}
+use Rattle.std.specs.Prelude.{ℕ, ◌+◌, cond, List, [], ◌∷◌, Some, None, Option, ◌==◌, nat_lt, slice_set}
 use Rattle.recurrence.specs.declared.parts.Few.{Few}
+use Rattle.recurrence.specs.Entries.{none}
 
 -- one octet more at the front of the first field
 abbrev pub extended : ℕ → List (List ℕ) → List (List ℕ)
@@ -28,4 +29,4 @@ entries_named named (f ∷ fs) few = if_some (named f) (λ x. entries_named name
 
 -- the list of a text, over items that mean nothing
 abbrev pub few_named : {X : Type 0} → (List ℕ → Option X) → X → List ℕ → Option (Few X)
-few_named named blank xs = entries_named named (fields_at 44 xs) (record { items = replicate 12 blank; len = 0 })
+few_named named blank xs = entries_named named (fields_at 44 xs) (none blank)

@@ -1,20 +1,18 @@
 -- A recurrence from the text of a rule.
-use Rattle.std.specs.Prelude.{◌≡◌, ℕ, ◌+◌, min, cond, List, [], ◌∷◌, replicate, Some, None, Ok, Err, Option, Result, nat_lt}
+use Rattle.std.specs.Prelude.{◌≡◌, ℕ, ◌+◌, min, cond, List, [], ◌∷◌, Some, None, Ok, Err, Option, Result, nat_lt}
 use Rattle.std.specs.Option.{unwrap_or}
 use Rattle.calendar.specs.Years.{last_day}
 use Rattle.calendar.specs.declared.starts.Moment.{Moment}
 use Rattle.calendar.specs.declared.weekdays.Weekday.TheVariants.{Monday}
 use Rattle.refusal.specs.declared.Refusal.{Refusal}
-use Rattle.refusal.specs.declared.Refusal.TheVariants.{OutOfBounds, BadPart}
+use Rattle.refusal.specs.declared.Refusal.TheVariants.{BadPart}
 use Rattle.notation.specs.Fields.{and_then}
-use Rattle.recurrence.specs.declared.parts.Few.{Few}
+use Rattle.recurrence.specs.Entries.{none}
 use Rattle.recurrence.specs.declared.parts.Frequency.{Frequency}
-use Rattle.recurrence.specs.declared.parts.MonthDay.TheVariants as monthDays
+use Rattle.recurrence.specs.declared.parts.Ordinal.TheVariants.{FromStart}
 use Rattle.recurrence.specs.declared.parts.Recurrence.{Recurrence}
 use Rattle.rule.specs.declared.rules.Rule.{Rule}
 use Rattle.rule.specs.Refused.{refusal, Made}
-use Rattle.rule_text.specs.declared.parts.Limit.{Limit}
-use Rattle.rule_text.specs.declared.parts.Limit.TheVariants.{At, Nowhere}
 use Rattle.rule_text.specs.declared.parts.Parts.{Parts}
 use Rattle.rule_text.specs.Lists.{fields_at}
 use Rattle.rule_text.specs.Parts.{part_read, blank_day}
@@ -37,31 +35,31 @@ abbrev pub bad_field : List (List ℕ) → Parts → Option (List ℕ)
 bad_field [] p = None
 bad_field (f ∷ fs) p = refused_in (bad_field fs) f (part_read p f)
 
-abbrev pub none : {X : Type 0} → X → Few X
-none x = record { items = replicate 12 x; len = 0 }
-
 -- the day after the last: UNTIL's date is the last day, or the day before it where its time comes before the clock
 abbrev pub after_last : ℕ → Moment → ℕ
 after_last clock m = cond (nat_lt m.clock clock) m.day (min m.day last_day + 1)
 
 abbrev pub settled_by : Frequency → Option ℕ → Parts → Recurrence
 settled_by f until p = record {
-  frequency = f;
-  interval = unwrap_or p.interval 1;
-  week_start = unwrap_or p.week_start Monday;
+  pattern = record {
+    frequency = f;
+    interval = unwrap_or p.interval 1;
+    week_start = unwrap_or p.week_start Monday;
+    months = unwrap_or p.months (none 0);
+    month_days = unwrap_or p.month_days (none (FromStart 0));
+    week_days = unwrap_or p.week_days (none blank_day);
+  };
   count = p.count;
   until = until;
-  months = unwrap_or p.months (none 0);
-  month_days = unwrap_or p.month_days (none (monthDays.FromStart 0));
-  week_days = unwrap_or p.week_days (none blank_day);
 }
 
-abbrev pub ended : Frequency → Option Limit → ℕ → Parts → Result Recurrence Refusal
+-- UNTIL must name a moment, if it is there
+abbrev pub ended : Frequency → Option (Result Moment Refusal) → ℕ → Parts → Result Recurrence Refusal
 ended f None clock p = Ok (settled_by f None p)
-ended f (Some (At m)) clock p = Ok (settled_by f (Some (after_last clock m)) p)
-ended f (Some Nowhere) clock p = Err OutOfBounds
+ended f (Some (Ok m)) clock p = Ok (settled_by f (Some (after_last clock m)) p)
+ended f (Some (Err e)) clock p = Err e
 
--- FREQ must be there, and UNTIL name a moment
+-- FREQ must be there
 abbrev pub begun : Option Frequency → ℕ → Parts → Result Recurrence Refusal
 begun None clock p = Err BadPart
 begun (Some f) clock p = ended f p.until clock p

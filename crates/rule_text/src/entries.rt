@@ -1,11 +1,11 @@
 // The entries of the lists of a rule.
-ghost use Rattle.std.specs.Prelude.{◌≡◌, ℕ, ◌-◌, ◌<◌, ◌≤◌, List, length, Option};
-ghost use Rattle.rule_text.specs.Entries.{month_named, month_day_named, ordinal_named, day_entry_named};
+ghost use Rattle.std.specs.Prelude.{◌≡◌, ℕ, List, Option};
+ghost use Rattle.rule_text.specs.Entries.{month_named, month_day_named, day_entry_named};
 
 use crate::words::weekday_named;
 use notation::digits::numeral_of;
 use notation::fields::first_rest;
-use recurrence::parts::{DayEntry, MonthDay, Ordinal};
+use recurrence::parts::{DayEntry, Ordinal};
 
 // What a field of a list may name.
 pub(crate) trait Entry: Copy + Sized {
@@ -25,48 +25,16 @@ impl Entry for u8 {
     }
 }
 
-impl Entry for MonthDay {
+impl Entry for Ordinal {
     ghost named = { month_day_named };
 
     // One or two digits with or without a sign.
-    fn read(octets: &[u8]) -> Option<MonthDay> {
+    fn read(octets: &[u8]) -> Option<Ordinal> {
         let (letter, rest) = first_rest(octets)?;
         match letter {
-            '-' => {
-                let day = numeral_of(rest, 1, 2)?;
-                Some(MonthDay::FromEnd(day as u8))
-            }
-            '+' => {
-                let day = numeral_of(rest, 1, 2)?;
-                Some(MonthDay::FromStart(day as u8))
-            }
-            _ => {
-                let day = numeral_of(octets, 1, 2)?;
-                Some(MonthDay::FromStart(day as u8))
-            }
-        }
-    }
-}
-
-// No ordinal, or one or two digits with or without a sign.
-fn ordinal_named(octets: &[u8]) -> Option<Ordinal>
-    ensures { result ≡ ordinal_named octets.now }
-{
-    let Some((letter, rest)) = first_rest(octets) else {
-        return Some(Ordinal::Every);
-    };
-    match letter {
-        '-' => {
-            let day = numeral_of(rest, 1, 2)?;
-            Some(Ordinal::FromEnd(day as u8))
-        }
-        '+' => {
-            let day = numeral_of(rest, 1, 2)?;
-            Some(Ordinal::FromStart(day as u8))
-        }
-        _ => {
-            let day = numeral_of(octets, 1, 2)?;
-            Some(Ordinal::FromStart(day as u8))
+            '-' => u8::read(rest).map(Ordinal::FromEnd),
+            '+' => u8::read(rest).map(Ordinal::FromStart),
+            _ => u8::read(octets).map(Ordinal::FromStart),
         }
     }
 }
@@ -76,11 +44,12 @@ impl Entry for DayEntry {
 
     // An ordinal, if there is one, and the two letters of a weekday.
     fn read(octets: &[u8]) -> Option<DayEntry> {
-        if octets.len() < 2 {
-            return None;
-        }
-        let (front, back) = octets.split_at(octets.len() - 2);
-        let ordinal = ordinal_named(front)?;
+        let (front, back) = octets.split_last_chunk::<2>()?;
+        let ordinal = if front.is_empty() {
+            None
+        } else {
+            Some(Ordinal::read(front)?)
+        };
         let weekday = weekday_named(back)?;
         Some(DayEntry { weekday, ordinal })
     }

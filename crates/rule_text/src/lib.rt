@@ -2,6 +2,7 @@
 #![tactic(auto)]
 
 mod entries;
+mod fields;
 mod lists;
 mod part_texts;
 pub mod parts;

@@ -1,9 +1,9 @@
 // A list of entries, parted by commas.
-ghost use Rattle.std.specs.Prelude.{◌≡◌, ℕ, ◌+◌, ◌<◌, ◌≤◌, List, length};
+ghost use Rattle.std.specs.Prelude.{◌≡◌, ◌<◌};
 ghost use Rattle.rule_text.specs.Lists.{pushed, few_named};
 
 use crate::entries::Entry;
-use notation::fields::cut;
+use crate::fields::Fields;
 use recurrence::parts::Few;
 
 // One entry more. Past the twelfth only the number of entries grows, by which the list is refused later.
@@ -12,7 +12,7 @@ fn push<T: Copy>(few: Few<T>, entry: T) -> Few<T>
     ensures { result ≡ pushed few entry }
 {
     let mut items = few.items;
-    if few.len < 12 {
+    if few.len < items.len() {
         items[few.len] = entry;
     }
     Few {
@@ -22,21 +22,14 @@ fn push<T: Copy>(few: Few<T>, entry: T) -> Few<T>
 }
 
 // The entries of a list, or none where a field names none.
+// The blank is handed in, since a clause cannot name a constant of the trait.
+#[tactic(auto, using(crate::proofs::Fielding::fields_within))]
 pub(crate) fn read_list<T: Entry>(octets: &[u8], blank: T) -> Option<Few<T>>
     ensures { result ≡ few_named T.Entry.named blank octets.now }
 {
-    let mut few = Few {
-        items: [blank; 12],
-        len: 0,
-    };
-    let mut text = octets;
-    loop {
-        let Some((field, rest)) = cut(text, ',') else {
-            let entry = T::read(text)?;
-            return Some(push(few, entry));
-        };
-        let entry = T::read(field)?;
-        few = push(few, entry);
-        text = rest;
+    let mut few = Few::empty(blank);
+    for field in Fields::new(octets, ',') {
+        few = push(few, T::read(field)?);
     }
+    Some(few)
 }

@@ -1,38 +1,15 @@
 -- Overrides that fit a map: they rise, and each is what the map says of its day.
-use Rattle.std.proofs.Common.{◌≡◌, ℕ, zero, suc, ◌+◌, ◌<◌, ◌≤◌, true, false, ◌&&◌, leb, ◌⊎◌, List, [], ◌∷◌, length, get_or, refl, inl, inr, arith}
-use Rattle.std.proofs.lemmas.Bool.{and_parts, and_left, and_right, leb-true, le-leb, lt-leb, eq-eqb, ne_eqb}
+use Rattle.std.proofs.Common.{◌≡◌, ℕ, zero, suc, ◌+◌, ◌<◌, ◌≤◌, true, List, [], ◌∷◌, length, get_or, Ok, Err, Result, MatchResult, refl, arith}
+use Rattle.std.proofs.lemmas.Bool.{eq-eqb, ne_eqb}
 use Rattle.series.specs.declared.changes.Override.{Override}
-use Rattle.series.specs.Marks.{plain, mark_of, mark_on, change_fits, overrides_fit}
+use Rattle.std.specs.Result.{result_ok}
+use Rattle.bounded.specs.Climbing.{Climbs, climbs_first}
+use Rattle.lookup.specs.Places.{Present, Absent}
+use Rattle.series.specs.Marks.{plain, mark_of, mark_on, change_fits, overrides_fit, Place}
 
--- what it says of the first that it fits
-pub record Fits (n : ℕ) (o : Override) (os : List Override) : Type 0 where
-  pub low : n ≤ o.day
-  pub high : o.day ≤ 109572
-  pub change : change_fits o.change ≡ true
-  pub rest : overrides_fit (o.day + 1) os ≡ true
-
-pub fits : (n : ℕ) (o : Override) (os : List Override) → overrides_fit n (o ∷ os) ≡ true → Fits n o os
-fits n o os h =
-    let a = and_parts ((leb n o.day && leb o.day 109572) && change_fits o.change) (overrides_fit (o.day + 1) os) h in
-    let b = and_parts (leb n o.day && leb o.day 109572) (change_fits o.change) a.0 in
-    let c = and_parts (leb n o.day) (leb o.day 109572) b.0 in
-    record { low = leb-true n o.day c.0; high = leb-true o.day 109572 c.1; change = b.1; rest = a.1 }
-
--- where the first fits, it is the rest that matters
-pub fits_on : (n : ℕ) (o : Override) (os : List Override) → n ≤ o.day → o.day ≤ 109572 → change_fits o.change ≡ true → overrides_fit n (o ∷ os) ≡ overrides_fit (o.day + 1) os
-fits_on n o os low high change = rw (le-leb n o.day low, le-leb o.day 109572 high, change)
-
--- why a first one does not fit
-abbrev pub Misfit : ℕ → Override → Type 0
-Misfit n o = (o.day < n) ⊎ ((109572 < o.day) ⊎ (change_fits o.change ≡ false))
-
-pub misfit : (n : ℕ) (o : Override) (os : List Override) → Misfit n o → overrides_fit n (o ∷ os) ≡ false
-misfit n o os w = and_left ((leb n o.day && leb o.day 109572) && change_fits o.change) (overrides_fit (o.day + 1) os) (why w)
-  where
-    why : Misfit n o → ((leb n o.day && leb o.day 109572) && change_fits o.change) ≡ false
-    why (inl l) = and_left (leb n o.day && leb o.day 109572) (change_fits o.change) (and_left (leb n o.day) (leb o.day 109572) (lt-leb n o.day l))
-    why (inr (inl l)) = and_left (leb n o.day && leb o.day 109572) (change_fits o.change) (and_right (leb n o.day) (leb o.day 109572) (lt-leb o.day 109572 l))
-    why (inr (inr f)) = and_right (leb n o.day && leb o.day 109572) (change_fits o.change) f
+-- what it says of the first that overrides fit
+pub fits : (n : ℕ) (o : Override) (os : List Override) → overrides_fit n (o ∷ os) ≡ true → Climbs (λ (o : Override). o.day) (λ o. change_fits o.change) n o os
+fits n o os h = climbs_first (λ (o : Override). o.day) (λ o. change_fits o.change) n o os h
 
 -- none has a day below the least
 pub fit_from : (n : ℕ) (os : List Override) → overrides_fit n os ≡ true → (j : ℕ) (o : Override) → j < length os → n ≤ (get_or os j o).day
@@ -64,3 +41,8 @@ mark_is_at n (x ∷ xs) h (suc i) d o l e =
 pub mark_none : (os : List Override) (d : ℕ) → ((j : ℕ) (o : Override) → j < length os → (get_or os j o).day ≡ d → ⊥) → mark_on os d ≡ plain
 mark_none [] d h = refl
 mark_none (x ∷ xs) d h = rw (ne_eqb x.day d (h 0 x (omega arith))) (mark_none xs d (λ j o l. h (suc j) o (omega arith)))
+
+-- what the search answers of the overrides, as a place
+pub place_found : (os : List Override) (d : ℕ) (r : Result ℕ ℕ) → overrides_fit 0 os ≡ true → MatchResult r (λ i. Present (λ (a : Override) k. a.day ≡ k) os d i) (λ i. Absent (λ (a : Override) k. a.day < k) (λ a k. a.day ≡ k) (λ a k. k < a.day) os d i) → Place os d (result_ok r)
+place_found os d (Ok i) fit p = record { within = p.within; says = λ o. mark_is_at 0 os fit i d o p.within (p.there o) }
+place_found os d (Err i) fit p = mark_none os d p.none

@@ -62,12 +62,9 @@ ranks [] (y ∷ ys) = tt
 ranks (x ∷ xs) [] = tt
 ranks (x ∷ xs) (y ∷ ys) = step x y xs ys (nat_cmp x y) (slice_cmp nat_cmp xs ys) (firsts x y) (ranks xs ys)
 
--- what `cmp` says of the octets that two calls gave
-pub ranks_at : {xs ys us vs : List ℕ} (r : Ordering) → us ≡ xs → vs ≡ ys → r ≡ slice_cmp nat_cmp us vs → MatchOrdering r (Ahead xs ys) (xs ≡ ys) (Ahead ys xs)
-ranks_at {xs} {ys} {us} {vs} r e f h =
-    subst (λ (o : Ordering). MatchOrdering o (Ahead xs ys) (xs ≡ ys) (Ahead ys xs)) (sym h)
-    (subst (λ (v : List ℕ). MatchOrdering (slice_cmp nat_cmp us vs) (Ahead xs v) (xs ≡ v) (Ahead v xs)) f
-    (subst (λ (u : List ℕ). MatchOrdering (slice_cmp nat_cmp us vs) (Ahead u vs) (u ≡ vs) (Ahead vs u)) e (ranks us vs)))
+-- what `cmp` of UIDs says
+pub ranks_at : (xs ys : List ℕ) (r : Ordering) → r ≡ slice_cmp nat_cmp xs ys → MatchOrdering r (Ahead xs ys) (xs ≡ ys) (Ahead ys xs)
+ranks_at xs ys r h = subst (λ (o : Ordering). MatchOrdering o (Ahead xs ys) (xs ≡ ys) (Ahead ys xs)) (sym h) (ranks xs ys)
 
 -- the test is the relation
 pub precedes_ahead : (xs ys : List ℕ) → precedes xs ys ≡ true → Ahead xs ys

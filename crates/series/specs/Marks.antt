@@ -1,6 +1,6 @@
 -- What became of the days of a series: cancelled, altered, or plain.
-use Rattle.std.specs.Prelude.{◌≡◌, ℕ, ◌+◌, ◌<◌, Bool, true, cond, ◌&&◌, List, [], ◌∷◌, length, Some, None, Option, ◌==◌, nat_le, nat_lt, slice_index_or}
-use Rattle.calendar.specs.Years.{last_day}
+use Rattle.std.specs.Prelude.{◌≡◌, ℕ, ◌<◌, Bool, true, cond, ◌&&◌, List, [], ◌∷◌, length, Some, None, Option, ◌==◌, nat_le, nat_lt, slice_index_or}
+use Rattle.bounded.specs.Climbing.{climbing}
 use Rattle.calendar.specs.Starts.{starts_end}
 use Rattle.series.specs.declared.changes.Change.{Change}
 use Rattle.series.specs.declared.changes.Change.TheVariants.{Cancelled, Altered}
@@ -33,8 +33,7 @@ change_fits (Altered a) = nat_lt a.start starts_end
 
 -- the first day is at least so much, each other comes after the one before it, and all is in bounds
 abbrev pub overrides_fit : ℕ → List Override → Bool
-overrides_fit least [] = true
-overrides_fit least (o ∷ os) = ((nat_le least o.day && nat_le o.day last_day) && change_fits o.change) && overrides_fit (o.day + 1) os
+overrides_fit = climbing (λ o. o.day) (λ o. change_fits o.change)
 
 -- the overrides that a map can hold
 abbrev pub map_holdable : List Override → Bool

@@ -1,5 +1,6 @@
 -- Which octets make a text, a UID and a stamp.
-use Rattle.std.specs.Prelude.{ℕ, ◌+◌, Bool, true, cond, not, ◌&&◌, ◌||◌, List, [], ◌∷◌, length, ◌==◌, nat_le}
+use Rattle.std.specs.Prelude.{ℕ, Bool, cond, not, ◌&&◌, ◌||◌, List, length, ◌==◌, nat_le}
+use Rattle.std.specs.List.{list_all, enumerate_from}
 
 abbrev pub text_limit : ℕ
 text_limit = 60
@@ -16,8 +17,7 @@ abbrev pub uid_octet : ℕ → Bool
 uid_octet x = (nat_le 33 x && nat_le x 126) && not (x == 44 || (x == 59 || (x == 58 || x == 92)))
 
 abbrev pub every : (ℕ → Bool) → List ℕ → Bool
-every p [] = true
-every p (x ∷ xs) = p x && every p xs
+every p xs = list_all p xs
 
 -- 1 to so many octets, each of which passes
 abbrev pub bounded : ℕ → (ℕ → Bool) → List ℕ → Bool
@@ -34,8 +34,7 @@ abbrev pub stamp_octet : ℕ → ℕ → Bool
 stamp_octet i x = cond (i == 8) (x == 84) (cond (i == 15) (x == 90) (nat_le 48 x && nat_le x 57))
 
 abbrev pub every_at : (ℕ → ℕ → Bool) → ℕ → List ℕ → Bool
-every_at p i [] = true
-every_at p i (x ∷ xs) = p i x && every_at p (i + 1) xs
+every_at p i xs = list_all (λ q. p q.0 q.1) (enumerate_from i xs)
 
 -- eight digits, T, six digits, Z
 abbrev pub is_stamp : List ℕ → Bool

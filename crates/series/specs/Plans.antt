@@ -1,5 +1,6 @@
 -- What a series means, and its occurrences.
-use Rattle.std.specs.Prelude.{ℕ, Bool, true, false, List, map, take}
+use Rattle.std.specs.Prelude.{ℕ, Bool, true, false, List, map}
+use Rattle.bounded.specs.Held.{held}
 use Rattle.calendar.specs.Starts.{start_of}
 use Rattle.series.specs.declared.changes.Override.{Override}
 use Rattle.series.specs.declared.overrides.Overrides.{Overrides}
@@ -59,7 +60,7 @@ abbrev pub live : Occurrence → Bool
 live o = live_by o.mark
 
 abbrev pub overrides_of : Overrides → List Override
-overrides_of m = take m.len m.items
+overrides_of m = held m.items
 
 module _ {S : Type 0} (days : S → List ℕ) where
   -- a source with what its days carry
@@ -67,4 +68,4 @@ module _ {S : Type 0} (days : S → List ℕ) where
   plan_from source clock duration text m = record { days = days source; clock = clock; duration = duration; text = text; marks = mark_on (overrides_of m) }
 
   abbrev pub plan_of : StoredSeries S → Plan
-  plan_of s = plan_from s.source s.clock.minute s.duration.minutes (text_octets s.text) s.overrides
+  plan_of s = plan_from s.repeats.source s.repeats.clock.minutes s.repeats.duration.minutes (text_octets s.repeats.text) s.overrides

@@ -1,14 +1,23 @@
 -- The octets of a text, of a UID and of a stamp.
-use Rattle.std.specs.Prelude.{ℕ, List, take, Some, None, Option}
+use Rattle.std.specs.Prelude.{ℕ, List, Some, None, Option}
+use Rattle.bounded.specs.Held.{held}
+use Rattle.series.specs.Octets.{text_limit, uid_limit, text_octet, uid_octet}
 use Rattle.series.specs.declared.stamps.Stamp.{Stamp}
-use Rattle.series.specs.declared.texts.Text.{Text}
-use Rattle.series.specs.declared.uids.Uid.{Uid}
+use Rattle.series.specs.declared.alphabets.TextOctets.{TextOctets}
+use Rattle.series.specs.declared.alphabets.UidOctets.{UidOctets}
+use Rattle.series.specs.declared.labels.Label.{Label}
+
+abbrev pub Text : Type 0
+Text = Label TextOctets text_limit (record { holds = text_octet })
+
+abbrev pub Uid : Type 0
+Uid = Label UidOctets uid_limit (record { holds = uid_octet })
 
 abbrev pub text_octets : Text → List ℕ
-text_octets t = take t.len t.octets
+text_octets t = held t.octets
 
 abbrev pub uid_octets : Uid → List ℕ
-uid_octets u = take u.len u.octets
+uid_octets u = held u.octets
 
 abbrev pub stamp_octets : Stamp → List ℕ
 stamp_octets s = s.octets

@@ -1,24 +1,26 @@
 // Which octets a text or a UID may hold.
-ghost use Rattle.std.specs.Prelude.{◌≡◌, ℕ, ◌+◌, ◌<◌, ◌≤◌, Bool};
+ghost use Rattle.std.specs.Prelude.{◌≡◌, ℕ, Bool};
 ghost use Rattle.series.specs.Octets.{text_octet, uid_octet, every};
 
 // A set of octets.
-pub(crate) trait Alphabet {
+pub trait Alphabet: Copy {
     ghost holds: { ℕ → Bool };
 
     fn allows(octet: u8) -> bool
         ensures { result ≡ holds octet };
 }
 
-pub(crate) struct TextOctets;
+#[derive(Clone, Copy)]
+pub struct TextOctets;
 
-pub(crate) struct UidOctets;
+#[derive(Clone, Copy)]
+pub struct UidOctets;
 
 impl Alphabet for TextOctets {
     ghost holds = { text_octet };
 
     fn allows(octet: u8) -> bool {
-        octet >= 128 || (octet >= 32 && octet <= 126)
+        matches!(octet, 32..=126 | 128..)
     }
 }
 
@@ -26,21 +28,13 @@ impl Alphabet for UidOctets {
     ghost holds = { uid_octet };
 
     fn allows(octet: u8) -> bool {
-        match octet {
-            b',' | b';' | b':' | b'\\' => false,
-            _ => octet >= 33 && octet <= 126,
-        }
+        octet.is_ascii_graphic() && !matches!(octet, b',' | b';' | b':' | b'\\')
     }
 }
 
 // Whether all octets are of the alphabet.
 pub(crate) fn all_of<A: Alphabet>(octets: &[u8]) -> bool
-    ensures { result ≡ every A.Alphabet.holds octets.now }
+    ensures { result ≡ every A.holds octets.now }
 {
-    for octet in octets {
-        if !A::allows(*octet) {
-            return false;
-        }
-    }
-    true
+    octets.iter().all(|octet| A::allows(*octet))
 }

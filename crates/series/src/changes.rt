@@ -7,6 +7,7 @@ pub struct Alteration {
     pub text: Text,
 }
 
+// Not an Option: that a day has no change is the None, and one Option in another would name neither.
 #[derive(Clone, Copy)]
 pub enum Change {
     Cancelled,

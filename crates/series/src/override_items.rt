@@ -7,9 +7,9 @@ ghost use Rattle.series.specs.Plans.{overrides_of};
 ghost use Rattle.std.proofs.Common.{rules};
 
 use crate::changes::{Change, Override};
-use crate::overrides::{OVERRIDE_LIMIT, Overrides};
-use crate::rooms::copy_front;
-use calendar::days::LAST_DAY;
+use crate::overrides::Overrides;
+use bounded::dated::{Dated, climb};
+use bounded::lists::Bounded;
 use calendar::starts::STARTS_END;
 use lookup::{Keyed, find};
 use refusal::Refusal;
@@ -44,13 +44,11 @@ impl Overrides {
     pub fn new(items: &[Override]) -> Result<Overrides, Refusal>
         ensures { MatchResult result (λ m. (map_holdable items.now ≡ true) × (overrides_of m ≡ items.now)) (λ e. (map_holdable items.now ≡ false) × (number e ≡ 8)) }
     {
-        if items.len() > OVERRIDE_LIMIT || !fit(items) {
+        let held = Bounded::new(items, BLANK).ok_or(Refusal::OutOfBounds)?;
+        if !climb(items) {
             return Err(Refusal::OutOfBounds);
         }
-        let mut room = room();
-        copy_front(&mut room, items);
-        let len = items.len() as u8;
-        Ok(Overrides { items: room, len })
+        Ok(Overrides { items: held })
     }
 
     // No override.
@@ -58,69 +56,51 @@ impl Overrides {
         ensures { overrides_of result ≡ [] }
     {
         Overrides {
-            items: room(),
-            len: 0,
+            items: Bounded::empty(BLANK),
         }
     }
 
     pub fn as_slice(&self) -> &[Override]
         ensures { result.now ≡ overrides_of self.now }
     {
-        &self.items[0..self.len as usize]
+        self.items.as_slice()
     }
 
     // The place of the override of a day, or none.
     fn place(&self, day: u32) -> Option<usize>
         ensures { Place (overrides_of self.now) day result }
     {
-        match find(self.as_slice(), &day) {
-            Ok(place) => Some(place),
-            Err(_) => None,
-        }
+        find(self.as_slice(), &day).ok()
     }
 
     // What became of a day, or none where no override has it.
     pub fn change_on(&self, day: u32) -> Option<&Change>
         ensures { mark_from (option_map (λ x. x.now) result) ≡ mark_on (overrides_of self.now) day }
     {
-        let Some(place) = self.place(day) else {
-            return None;
-        };
-        let items = self.as_slice();
-        Some(&items[place].change)
+        let place = self.place(day)?;
+        Some(&self.as_slice()[place].change)
     }
 }
 
-// An array for overrides; what stands in it means nothing.
-fn room() -> [Override; OVERRIDE_LIMIT]
-    ensures { length result ≡ 24 }
-{
-    [Override {
-        day: 0,
-        change: Change::Cancelled,
-    }; OVERRIDE_LIMIT]
-}
+impl Dated for Override {
+    ghost day_of = { λ o. o.day };
 
-// Whether the start of an alteration is one.
-fn change_fits(change: &Change) -> bool
-    ensures { result ≡ change_fits change.now }
-{
-    match change {
-        Change::Cancelled => true,
-        Change::Altered(alteration) => alteration.start < STARTS_END,
+    ghost carries = { λ o. change_fits o.change };
+
+    fn day(&self) -> u32 {
+        self.day
     }
-}
 
-// Whether each day comes after the one before it, none past the last day, and no start is past the last.
-fn fit(items: &[Override]) -> bool
-    ensures { result ≡ overrides_fit 0 items.now }
-{
-    let mut least = 0;
-    for item in items {
-        if item.day < least || item.day > LAST_DAY || !change_fits(&item.change) {
-            return false;
+    fn fits(&self) -> bool {
+        match &self.change {
+            Change::Cancelled => true,
+            Change::Altered(alteration) => alteration.start < STARTS_END,
         }
-        least = item.day + 1;
     }
-    true
 }
+
+// What stands past the overrides of a map, and means nothing.
+const BLANK: Override = Override {
+    day: 0,
+    change: Change::Cancelled,
+};

@@ -9,8 +9,5 @@ use crate::texts::Text;
 pub fn shown_text<'a>(series: &'a Text, own: Option<&'a Text>) -> &'a [u8]
     ensures { result.now ≡ own_or (option_map (λ x. x.now) own.entry) series.now }
 {
-    match own {
-        Some(text) => text.as_bytes(),
-        None => series.as_bytes(),
-    }
+    own.unwrap_or(series).as_bytes()
 }

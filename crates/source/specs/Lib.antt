@@ -3,3 +3,4 @@ pub mod Intervals
 pub mod Ascents
 pub mod Kept
 pub mod Ticks
+pub mod Walks

@@ -1,7 +1,6 @@
 -- The days of an interval, and where a number cuts them.
-use Rattle.std.specs.Prelude.{◌≡◌, ℕ, zero, suc, ◌+◌, ◌-◌, ◌*◌, ◌/◌, ◌<◌, ◌≤◌, min, cond, [], ◌∷◌, length, Some, None, nat_lt, refl}
-use Rattle.std.proofs.Common.{sym, ap, ◌∙◌, ⊎_elim, suc-mul, zero-mul, add-mul, mul-le-mul_right, div-mul-le_self, arith}
-use Rattle.std.proofs.Math.Nat.{lt-div-mul-add}
+use Rattle.std.specs.Prelude.{◌≡◌, ℕ, zero, suc, ◌+◌, ◌-◌, ◌*◌, ◌<◌, ◌≤◌, min, cond, [], ◌∷◌, length, Some, None, nat_lt, refl}
+use Rattle.std.proofs.Common.{sym, ap, ◌∙◌, ⊎_elim, suc-mul, zero-mul, add-mul, arith}
 use Rattle.std.specs.List.{AllByRecursion}
 use Rattle.std.proofs.ByRecursion.{All-weaker}
 use Rattle.std.proofs.lemmas.Bool.{cases_lt, lt-ltb, le-ltb, lt-leb}
@@ -63,18 +62,6 @@ first_ticks s k h m =
     (λ (l : m < h). let e : h - m ≡ suc (h - m - 1) = omega arith in rw (lt-ltb m h l, e))
     (λ (l : h ≤ m). let e : h - m ≡ 0 = omega arith in rw (le-ltb m h l, e))
     (cases_lt m h)
-
--- the place of d among the days, by a quotient
-pub quotient_under : (s k d j : ℕ) → 0 < k → s < d → j < (d - s - 1) / k + 1 → s + j * k < d
-quotient_under s k d j hk hs hj =
-    let q : j ≤ (d - s - 1) / k = omega arith in
-    omega (arith, mul-le-mul_right k q, div-mul-le_self (d - s - 1) k)
-
-pub quotient_over : (s k d : ℕ) → 0 < k → s < d → d ≤ s + ((d - s - 1) / k + 1) * k
-quotient_over s k d hk hs =
-    let q = (d - s - 1) / k in
-    let e : (q + 1) * k ≡ q * k + k = rw add-mul (omega (arith, suc-mul 0 k, zero-mul k)) in
-    omega (arith, lt-div-mul-add {a = d - s - 1} {b = k} hk)
 
 -- n days that all lie before e
 whole_ticks : (s k n e : ℕ) → ((j : ℕ) → j < n → s + j * k < e) → before e (ticks s k n) ≡ ticks s k n

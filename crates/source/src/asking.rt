@@ -5,21 +5,16 @@ ghost use Rattle.source.specs.Days.{among, no_days};
 use crate::sources::Source;
 
 // Whether a day is one of a source's.
+#[tactic(auto, using(crate::proofs::Among::among_first))]
 pub fn has_day<S: Source>(source: &S, day: u32) -> bool
     ensures { result ≡ among day (S.Source.days source.now) }
 {
-    let Some(first) = source.first_at(day) else {
-        return false;
-    };
-    first == day
+    source.first_at(day) == Some(day)
 }
 
 // Whether a source has no day at all.
 pub fn is_empty<S: Source>(source: &S) -> bool
     ensures { result ≡ no_days (S.Source.days source.now) }
 {
-    let Some(_) = source.first_at(0) else {
-        return true;
-    };
-    false
+    source.first_at(0).is_none()
 }

@@ -31,15 +31,9 @@ impl Interval {
     fn below(&self, day: u32) -> u32
         ensures { Cut self.now.start self.now.step self.now.count result day }
     {
-        if day <= self.start {
-            return 0;
-        }
-        let places = (day - self.start - 1) / self.step + 1;
-        if places < self.count {
-            places
-        } else {
-            self.count
-        }
+        day.saturating_sub(self.start)
+            .div_ceil(self.step)
+            .min(self.count)
     }
 
     // How many days there are before `day`, and in all: those past the last day do not count.
@@ -71,11 +65,7 @@ impl Source for Interval {
 
     fn first_at(&self, day: u32) -> Option<u32> {
         let at = self.places(day);
-        if at.low < at.high {
-            Some(self.start + at.low * self.step)
-        } else {
-            None
-        }
+        (at.low < at.high).then(|| self.start + at.low * self.step)
     }
 
     fn head(&self, day: u32) -> Interval
@@ -97,17 +87,15 @@ impl Source for Interval {
         ensures same { (result.count ≡ 0 → result.start ≡ self.now.start) × (result.step ≡ self.now.step) }
     {
         let at = self.places(day);
-        if at.low < at.high {
-            return Interval {
-                start: self.start + at.low * self.step,
-                step: self.step,
-                count: at.high - at.low,
-            };
-        }
+        let start = if at.low < at.high {
+            self.start + at.low * self.step
+        } else {
+            self.start
+        };
         Interval {
-            start: self.start,
+            start,
             step: self.step,
-            count: 0,
+            count: at.high - at.low,
         }
     }
 }

@@ -6,3 +6,4 @@ pub mod cuts;
 pub mod interval_source;
 pub mod intervals;
 pub mod sources;
+pub mod walks;

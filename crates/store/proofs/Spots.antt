@@ -1,8 +1,9 @@
 -- Pairs by their places: what stands at one, and that writing at the place that a search gives is a put or a removal.
-use Rattle.std.proofs.Common.{◌≡◌, ℕ, zero, suc, ◌+◌, ◌<◌, ◌≤◌, false, List, [], ◌∷◌, map, length, get_or, set, Some, None, sym, refl, ap, ◌∙◌, subst, arith}
+use Rattle.std.proofs.Common.{◌≡◌, ℕ, zero, suc, ◌+◌, ◌<◌, ◌≤◌, false, List, [], ◌∷◌, map, set, Ok, Err, Result, MatchResult, Some, None, sym, refl, ap, ◌∙◌, subst, arith}
 use Rattle.std.specs.List.{insert, remove, AllByRecursion}
 use Rattle.std.specs.Str.{bytes_eq}
 use Rattle.std.specs.Option.{option_map}
+use Rattle.std.specs.Result.{result_ok}
 use Rattle.series.specs.Order.{Ahead}
 use Rattle.store.specs.declared.pairs.Pair.{Pair}
 use Rattle.store.specs.Pairs.{key, Ascends, pair_at, place_from, place_of, found, held, placed, without}
@@ -17,16 +18,6 @@ seat_ahead k (x ∷ ks) u zero a s = subst (λ (v : List ℕ). Ahead k v) s a.0
 seat_ahead k (x ∷ ks) u (suc i) a s = seat_ahead k ks u i a.1 s
 
 module _ {S : Type 0} where
-  pub at_here : (ps : List (Pair S)) (i : ℕ) (p : Pair S) → i < length ps → p ≡ get_or ps i p → pair_at ps i ≡ Some p
-  at_here [] i p l e = absurd (omega arith)
-  at_here (x ∷ ps) zero p l e = ap (λ (y : Pair S). Some y) (sym e)
-  at_here (x ∷ ps) (suc i) p l e = at_here ps i p (omega arith) e
-
-  pub at_none : (ps : List (Pair S)) (i : ℕ) → length ps ≤ i → pair_at ps i ≡ None
-  at_none [] i l = refl
-  at_none (x ∷ ps) zero l = absurd (omega arith)
-  at_none (x ∷ ps) (suc i) l = at_none ps i (omega arith)
-
   -- the key that stands at the head is not the one further on
   seat_other : (p : Pair S) (ps : List (Pair S)) (u : List ℕ) (i : ℕ) → Ascends (p ∷ ps) → Seat (map key ps) u i → Ahead (key p) u
   seat_other p ps u i h s = seat_ahead (key p) (map key ps) u i (ordered_keys key (p ∷ ps) h).0 s
@@ -55,6 +46,11 @@ module _ {S : Type 0} where
 
     pub place_gap : (ps : List (Pair S)) (i : ℕ) → Gap (map key ps) u i → place_of u ps ≡ None
     place_gap ps i g = place_none 0 ps i g
+
+    -- as a place or none
+    pub place_found : (ps : List (Pair S)) (n : ℕ) (r : Result ℕ ℕ) → Ascends ps → MatchResult r (λ i. (i < n) × Seat (map key ps) u i) (λ i. (i ≤ n) × Gap (map key ps) u i) → result_ok r ≡ place_of u ps
+    place_found ps n (Ok i) h s = sym (place_seat u ps i h s.1)
+    place_found ps n (Err i) h g = sym (place_gap ps i g.1)
 
     pub found_gap : (ps : List (Pair S)) (i : ℕ) → Gap (map key ps) u i → found u ps ≡ None
     found_gap [] i g = refl

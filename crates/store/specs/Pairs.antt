@@ -1,5 +1,5 @@
 -- Pairs of UID and series, and how they change.
-use Rattle.std.specs.Prelude.{◌≡◌, ℕ, zero, suc, ◌≤◌, cond, List, [], ◌∷◌, length, Some, None, Option}
+use Rattle.std.specs.Prelude.{◌≡◌, ℕ, suc, ◌≤◌, cond, List, [], ◌∷◌, length, Some, None, Option, slice_get}
 use Rattle.std.specs.Str.{bytes_eq}
 use Rattle.series.specs.declared.stored.StoredSeries.{StoredSeries}
 use Rattle.series.specs.Members.{Ordered}
@@ -17,9 +17,7 @@ module _ {S : Type 0} where
 
   -- the pair at a place, or none past the last
   abbrev pub pair_at : List (Pair S) → ℕ → Option (Pair S)
-  pair_at [] i = None
-  pair_at (p ∷ ps) zero = Some p
-  pair_at (p ∷ ps) (suc i) = pair_at ps i
+  pair_at ps i = slice_get ps i
 
   -- the place of a UID, counted from n on, or none
   abbrev pub place_from : ℕ → List ℕ → List (Pair S) → Option ℕ

@@ -1,6 +1,5 @@
 // What a diary keeps its series in: pairs of UID and series, ascending by UID.
 #![tactic(auto)]
 
-pub mod orders;
 pub mod pairs;
 pub mod stores;

@@ -5,7 +5,6 @@ ghost use Rattle.series.specs.Values.{uid_octets};
 ghost use Rattle.series.proofs.Orders.{chain};
 ghost use Rattle.store.specs.Keys.{ahead_apart, behind_apart};
 
-use crate::orders::order;
 use lookup::Keyed;
 use series::stored::StoredSeries;
 use series::uids::Uid;
@@ -37,6 +36,6 @@ impl<S> Keyed for Pair<S> {
     ghost above = { λ a k p q. behind_apart (uid_octets a.uid) (uid_octets k) p q };
 
     fn order(&self, key: &Uid) -> Ordering {
-        order(&self.uid, key)
+        self.uid.cmp(key)
     }
 }

@@ -56,18 +56,11 @@ impl<S: Source> Store for Table<S> {
     }
 
     fn place(&self, uid: &Uid) -> Option<usize> {
-        match self.seek(uid) {
-            Ok(place) => Some(place),
-            Err(_) => None,
-        }
+        self.seek(uid).ok()
     }
 
     fn at(&self, place: usize) -> Option<&Pair<S>> {
-        if place < self.rows.len() {
-            Some(&self.rows[place])
-        } else {
-            None
-        }
+        self.rows.get(place)
     }
 
     fn put(&mut self, pair: Pair<S>) -> Result<(), Refusal>
@@ -80,9 +73,7 @@ impl<S: Source> Store for Table<S> {
                 if self.rows.len() == self.limit {
                     return Err(Refusal::StoreFull);
                 }
-                if self.rows.insert(place, pair).is_err() {
-                    unreachable();
-                }
+                self.rows.insert(place, pair).unwrap();
             }
         }
         Ok(())

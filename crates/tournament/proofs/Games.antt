@@ -1,20 +1,13 @@
 -- The root of a played tree is its best leaf; a write to one node keeps the games that it is not in.
-use Rattle.std.proofs.Common.{◌≡◌, ℕ, zero, suc, ◌+◌, ◌-◌, ◌*◌, ◌/◌, ◌<◌, ◌≤◌, ◌≢◌, List, length, set, sym, ap, subst, ⊎_elim, arith}
-use Rattle.std.proofs.lemmas.List.{get_or-set_same, get_or-set_other}
+use Rattle.std.proofs.Common.{◌≡◌, ℕ, zero, suc, ◌+◌, ◌-◌, ◌*◌, ◌/◌, ◌<◌, ◌≤◌, ◌≢◌, List, set, sym, ap, subst, ⊎_elim, arith}
+use Rattle.std.proofs.lemmas.List.{get_or-set_other}
 use Rattle.std.proofs.lemmas.Bool.{cases_eq, cases_lt}
 use Rattle.tournament.specs.declared.nodes.Node.{Node}
-use Rattle.tournament.specs.Ranks.{rank, Better, Won, Seated, Played, node}
+use Rattle.tournament.specs.Ranks.{rank, Won, Seated, Played, node}
 
 -- a write at j leaves the game at k, unless j is in it
 pub kept : (t : List Node) (j k : ℕ) (x : Node) → Won t k → k ≢ j → 2 * k ≢ j → 2 * k + 1 ≢ j → Won (set t j x) k
 kept t j k x w a b c = rw (get_or-set_other t j k x _ a, get_or-set_other t j (2 * k) x _ b, get_or-set_other t j (2 * k + 1) x _ c) w
-
--- the game at k, once its result is written
-pub settled : (t : List Node) (k : ℕ) (x : Node) → 1 ≤ k → k < length t → Better (node t (2 * k)) (node t (2 * k + 1)) x → Won (set t k x) k
-settled t k x one l b =
-    let p : 2 * k ≢ k = λ e. omega (arith, e) in
-    let q : 2 * k + 1 ≢ k = λ e. omega (arith, e) in
-    rw (get_or-set_same t k x _ l, get_or-set_other t k (2 * k) x _ p, get_or-set_other t k (2 * k + 1) x _ q) b
 
 -- what a write to the leaf at j asks to be played again
 pub changed : (n : ℕ) (t : List Node) (j : ℕ) (x : Node) → n ≤ j → Played n t → (k : ℕ) → 1 ≤ k → k < n → k ≢ j / 2 → Won (set t j x) k

@@ -8,13 +8,11 @@ use crate::nodes::Node;
 pub fn better(a: Node, b: Node) -> Node
     ensures { Better a b result }
 {
-    if b.start < a.start {
-        return b;
+    if (b.start, b.place) < (a.start, a.place) {
+        b
+    } else {
+        a
     }
-    if b.start == a.start && b.place < a.place {
-        return b;
-    }
-    a
 }
 
 // Plays every node of a tree whose `n` leaves stand at `n` and on.
@@ -24,9 +22,7 @@ pub fn play(tree: &mut [Node], n: usize)
     ensures played { Played n tree.new }
     ensures long { length tree.new ≡ length tree.old }
 {
-    let mut k = n;
-    while k > 1 {
-        k -= 1;
+    for k in (1..n).rev() {
         tree[k] = better(tree[2 * k], tree[2 * k + 1]);
     }
 }
@@ -38,6 +34,7 @@ pub fn replay(tree: &mut [Node], n: usize, leaf: usize)
     ensures played { Played n tree.new }
     ensures long { length tree.new ≡ length tree.old }
 {
+    // a while: each node's place is half of its child's, and no range halves
     let mut k = leaf / 2;
     while k > 0 {
         tree[k] = better(tree[2 * k], tree[2 * k + 1]);

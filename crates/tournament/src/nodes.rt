@@ -1,4 +1,5 @@
 // Where a series stands: its next shown start and day, at its place in the store.
+// Not a key beside a place: nodes rank by start and place, and the day comes last.
 #[derive(Clone, Copy)]
 pub struct Node {
     pub start: u32,

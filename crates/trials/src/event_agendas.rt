@@ -1,5 +1,7 @@
 // The agenda of one event at the edges of its window and of its page.
-use event::agendas::agenda;
+use calendar::windows::Window;
+use event::events::Event;
+use page::pages::Page;
 use refusal::Refusal;
 use series::clocks::Clock;
 use series::durations::Duration;
@@ -10,12 +12,15 @@ use source::intervals::Interval;
 use std::test::Fail;
 
 // Evensong on 7 and 21 January and 4 February 2024, at 18:30.
-fn evensong() -> Result<Series<Interval>, Refusal> {
-    Ok(Series {
-        source: Interval::new(45_296, 14, 3)?,
-        clock: Clock::new(1110)?,
-        duration: Duration::new(45)?,
-        text: Text::new(b"Evensong")?,
+fn evensong() -> Result<Event<Interval>, Refusal> {
+    Ok(Event {
+        uid: Uid::new(b"e")?,
+        series: Series {
+            source: Interval::new(45_296, 14, 3)?,
+            clock: Clock::new(1110)?,
+            duration: Duration::new(45)?,
+            text: Text::new(b"Evensong")?,
+        },
     })
 }
 
@@ -26,19 +31,14 @@ fn asked(
     room: usize,
     start: usize,
 ) -> Result<(Result<usize, Refusal>, usize), Refusal> {
-    let series = evensong()?;
-    let uid = Uid::new(b"e")?;
     let mut octets = [b'.'; 100];
-    let mut len = start;
-    let answer = agenda(
-        &uid,
-        &series,
-        from,
-        end,
-        &mut octets[0..room.min(100)],
-        &mut len,
-    );
-    Ok((answer, len))
+    let mut page = Page {
+        octets: &mut octets[..room.min(100)],
+        len: start,
+    };
+    let window = Window { from, end };
+    let answer = evensong()?.agenda(window, &mut page);
+    Ok((answer, page.len))
 }
 
 #[test]

@@ -7,21 +7,9 @@ use source::sources::Source;
 use std::process::Abort;
 use std::test::Fail;
 
-fn dates(days: &[u32]) -> Result<DateList, Fail> {
-    match DateList::new(days) {
-        Ok(list) => Ok(list),
-        Err(_) => Err(Fail::new("refused")),
-    }
-}
-
-fn refused(rt: &impl Abort, days: &[u32]) -> Result<(), Fail> {
-    match DateList::new(days) {
-        Ok(_) => Err(Fail::new("made")),
-        Err(refusal) => {
-            assert_eq!(rt; refusal.number(), 8);
-            Ok(())
-        },
-    }
+fn refused(rt: &impl Abort, days: &[u32]) {
+    let refusal = DateList::new(days).err();
+    assert_eq!(rt; refusal.map(|refusal| refusal.number()), Some(8));
 }
 
 #[test]
@@ -29,23 +17,21 @@ fn bounds_of_date_lists(rt: HostRuntime) -> Result<(), Fail> {
     let many = [
         0, 1, 2, 3, 4, 5, 6, 7, 8, 9, 10, 11, 12, 13, 14, 15, 16, 17, 18, 19, 20, 21, 22, 23, 24,
     ];
-    dates(&[])?;
-    dates(&many[0..24])?;
-    refused(&rt, &many[0..25])?;
-    dates(&[0, 109_572])?;
-    refused(&rt, &[109_573])?;
-    refused(&rt, &[7, 7])?;
-    refused(&rt, &[8, 7])
+    DateList::new(&[])?;
+    DateList::new(&many[0..24])?;
+    refused(&rt, &many[0..25]);
+    DateList::new(&[0, 109_572])?;
+    refused(&rt, &[109_573]);
+    refused(&rt, &[7, 7]);
+    refused(&rt, &[8, 7]);
+    Ok(())
 }
 
 #[test]
 fn a_union_has_no_day_twice(rt: HostRuntime) -> Result<(), Fail> {
-    let Ok(weekly) = Interval::new(7, 7, 3) else {
-        return Err(Fail::new("refused"));
-    };
     let both = Union {
-        first: weekly,
-        dates: dates(&[3, 14, 30])?,
+        first: Interval::new(7, 7, 3)?,
+        dates: DateList::new(&[3, 14, 30])?,
     };
     assert_eq!(rt; both.first_at(0), Some(3));
     assert_eq!(rt; both.first_at(4), Some(7));

@@ -1,5 +1,6 @@
 -- The records of an undo log, newest first, and what they say of plans.
-use Rattle.std.specs.Prelude.{ℕ, List, [], ◌∷◌, map, vec_items, Option}
+use Rattle.std.specs.Prelude.{ℕ, List, [], ◌∷◌, map, Option}
+use Rattle.std.specs.VecDeque.{deque_items}
 use Rattle.std.specs.Option.{option_map}
 use Rattle.series.specs.Plans.{Plan, plan_of}
 use Rattle.series.specs.Values.{uid_octets}
@@ -10,7 +11,7 @@ use Rattle.undo.specs.declared.records.UndoRecord.TheVariants.{One, Two}
 use Rattle.undo.specs.declared.logs.UndoLog.{UndoLog}
 
 abbrev pub records_in : {S : Type 0} → UndoLog S → List (UndoRecord S)
-records_in log = vec_items log.records
+records_in log = deque_items log.records
 
 module _ {S : Type 0} (days : S → List ℕ) where
   abbrev pub former_plan : Former S → List ℕ × Option Plan

@@ -9,7 +9,7 @@ pub struct Former<S> {
     pub series: Option<StoredSeries<S>>,
 }
 
-// A change touches one UID, or two where a series is split.
+// A change touches one UID, or two where a series is split. A second Former in an Option would not say that.
 #[derive(Clone, Copy)]
 pub enum UndoRecord<S> {
     One(Former<S>),

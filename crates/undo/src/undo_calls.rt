@@ -5,13 +5,14 @@ ghost use Rattle.undo.specs.Logs.{records_in};
 use crate::logs::{REMEMBERED, UndoLog};
 use crate::records::UndoRecord;
 use std::alloc::{AllocError, Global};
+use std::collections::VecDeque;
 
 impl<S: Copy> UndoLog<S> {
     // An empty log of so many places.
     pub fn new(heap: Global, places: usize) -> Result<UndoLog<S>, AllocError>
         ensures { IfOk result (λ log. (records_in log ≡ []) × (log.places ≡ places)) }
     {
-        let records = Vec::with_capacity(heap, places.min(REMEMBERED))?;
+        let records = VecDeque::with_capacity(heap, places.min(REMEMBERED))?;
         Ok(UndoLog { records, places })
     }
 
@@ -30,6 +31,6 @@ impl<S: Copy> UndoLog<S> {
             return;
         }
         self.records.truncate(REMEMBERED - 1);
-        let _ = self.records.insert(0, change);
+        self.records.push_front_reserved(change);
     }
 }

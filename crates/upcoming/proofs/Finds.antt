@@ -1,8 +1,9 @@
--- What a source's first day from a number on says of its days.
-use Rattle.std.proofs.Common.{◌≡◌, ℕ, ◌<◌, ◌≤◌, List, [], ◌∷◌, Some, None, Option, sym, refl, subst, inl, inr, ⊎_elim, arith}
+-- What holds of every day of a source, and which days it has.
+use Rattle.std.proofs.Common.{◌≡◌, ℕ, true, false, List, [], ◌∷◌, sym, subst, inl, inr, ⊎_elim, arith}
 use Rattle.std.specs.List.{AllByRecursion}
-use Rattle.std.proofs.lemmas.Bool.{cases_lt, le-leb, lt-leb}
-use Rattle.source.specs.Days.{Ascending, first_from}
+use Rattle.std.proofs.lemmas.Bool.{both_ways}
+use Rattle.std.proofs.lemmas.Bool.Decides.{eqb_tells}
+use Rattle.source.specs.Days.{among}
 use Rattle.series.specs.Members.{Mem}
 
 pub all_mem : {X : Type 0} (P : X → Type 0) (xs : List X) → AllByRecursion P xs → (x : X) → Mem x xs → P x
@@ -10,29 +11,11 @@ all_mem P [] a x m = absurd m
 all_mem P (y ∷ ys) a x (inl e) = subst P (sym e) a.0
 all_mem P (y ∷ ys) a x (inr m) = all_mem P ys a.1 x m
 
--- e is the first of the days from d on
-pub record First (xs : List ℕ) (d e : ℕ) : Type 0 where
-  pub among : Mem e xs
-  pub from : d ≤ e
-  pub first : (x : ℕ) → Mem x xs → d ≤ x → e ≤ x
+-- the test says which days are among them
+pub among_mem : (d : ℕ) (xs : List ℕ) → among d xs ≡ true → Mem d xs
+among_mem d [] h = let z : ◌≡◌ {A = ℕ} 0 1 = cc in omega arith
+among_mem d (x ∷ xs) h = ⊎_elim (λ t. inl t.1) (λ f. inr (among_mem d xs (rw f.0 at h))) (eqb_tells d x)
 
-abbrev pub Firsts : List ℕ → ℕ → Option ℕ → Type 0
-Firsts xs d None = (x : ℕ) → Mem x xs → d ≤ x → ⊥
-Firsts xs d (Some e) = First xs d e
-
-more : (x d : ℕ) (xs : List ℕ) (r : Option ℕ) → x < d → Firsts xs d r → Firsts (x ∷ xs) d r
-more x d xs None l h = λ y m k. elim m [ inl e ↦ (let e' : y ≡ x = e in omega arith) | inr n ↦ h y n k ]
-more x d xs (Some e) l h = record { among = inr h.among; from = h.from; first = λ y m k. elim m [ inl q ↦ (let q' : y ≡ x = q in omega arith) | inr n ↦ h.first y n k ] }
-
-firsts : (xs : List ℕ) → Ascending xs → (d : ℕ) → Firsts xs d (first_from d xs)
-firsts [] a d = λ y m k. m
-firsts (x ∷ xs) a d =
-    ⊎_elim
-    (λ (l : x < d). rw (lt-leb d x l) (more x d xs (first_from d xs) l (firsts xs a.1 d)))
-    (λ (g : d ≤ x).
-    let s : First (x ∷ xs) d x = record { among = inl refl; from = g; first = λ y m k. elim m [ inl q ↦ (let q' : y ≡ x = q in omega arith) | inr n ↦ (let z : x < y = all_mem (λ y. x < y) xs a.0 y n in omega arith) ] } in
-    rw (le-leb d x g) s)
-    (cases_lt x d)
-
-pub found : (xs : List ℕ) → Ascending xs → (d : ℕ) (r : Option ℕ) → r ≡ first_from d xs → Firsts xs d r
-found xs a d r e = subst (Firsts xs d) (sym e) (firsts xs a d)
+pub among_not : (d : ℕ) (xs : List ℕ) → among d xs ≡ false → Mem d xs → ⊥
+among_not d [] h m = m
+among_not d (x ∷ xs) h m = ⊎_elim (λ t. both_ways (among d (x ∷ xs)) h (rw t.0)) (λ f. elim m [ inl e ↦ f.1 e | inr n ↦ among_not d xs (rw f.0 at h) n ]) (eqb_tells d x)

@@ -3,3 +3,4 @@ pub mod Joins
 pub mod Moving
 pub mod Windows
 pub mod Turns
+pub mod Walks

@@ -36,6 +36,11 @@ StartsAt (Altered a) s = s ≡ a.start
 abbrev pub MovesTo : Override → ℕ → ℕ → Type 0
 MovesTo o s d = (d ≡ o.day) × StartsAt o.change s
 
+-- where the override moves its day, or that it does not
+abbrev pub KeyOf : Override → Option Key → Type 0
+KeyOf o None = (s d : ℕ) → MovesTo o s d → ⊥
+KeyOf o (Some k) = MovesTo o k.start k.day
+
 -- one of the overrides does
 abbrev pub Moves : List Override → ℕ → ℕ → Type 0
 Moves [] s d = ⊥

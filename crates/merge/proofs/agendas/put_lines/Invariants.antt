@@ -2,8 +2,8 @@ use Rattle.std.proofs.Common.{◌-◌, length}
 use Rattle.merge.proofs.Written.{Writing}
 use Rattle.merge.proofs.agendas.put_lines.Given as goal
 
-abbrev pub invariant-lines : goal.invariant-lines
-invariant-lines g l = Writing g.St.Source.Source.days (g.St.Store.pairs l.store) l.from l.end l.count l.nodes l.lines l.initial.octets l.octets l.initial.len l.len
+abbrev pub invariant-loop-nodes : goal.invariant-loop-nodes
+invariant-loop-nodes g l = Writing g.St.Source.Source.days (g.St.Store.pairs l.store) l.window l.count l.nodes l.lines l.initial.page l.page
 
-abbrev pub decreases-lines : goal.decreases-lines
-decreases-lines g l = length l.initial.octets - l.len
+abbrev pub decreases-loop-nodes : goal.decreases-loop-nodes
+decreases-loop-nodes g l = length l.initial.page.octets.now - l.page.len

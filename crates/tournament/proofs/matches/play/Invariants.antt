@@ -3,9 +3,4 @@ use Rattle.tournament.specs.Ranks.{Won, node}
 use Rattle.tournament.proofs.matches.play.Given as goal
 
 abbrev pub invariant-loop-k : goal.invariant-loop-k
-invariant-loop-k l = (l.k ≤ l.n)
-    × ((j : ℕ) → l.n ≤ j → node l.tree j ≡ node l.initial.tree j)
-    × ((i : ℕ) → 1 ≤ i → l.k ≤ i → i < l.n → Won l.tree i)
-
-abbrev pub decreases-loop-k : goal.decreases-loop-k
-decreases-loop-k l = l.k
+invariant-loop-k l = ((j : ℕ) → l.n ≤ j → node l.tree j ≡ node l.initial.tree j) × ((i : ℕ) → 1 ≤ i → l.k ≤ i → i < l.n → Won l.tree i)

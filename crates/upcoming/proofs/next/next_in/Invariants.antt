@@ -6,4 +6,4 @@ use Rattle.upcoming.proofs.Turns.{Seen}
 use Rattle.upcoming.proofs.next.next_in.Given as goal
 
 abbrev pub invariant-loop-item : goal.invariant-loop-item
-invariant-loop-item g l = Next (Seen (Plain (plan_of g.S.Source.days l.series)) (g.S.Source.days l.series.source) (take l.item-index l.items)) l.start l.day l.end l.best
+invariant-loop-item g l = Next (Seen (Plain (plan_of g.S.Source.days l.series)) (g.S.Source.days l.series.repeats.source) (take l.item-index l.item-items)) l.from.start l.from.day l.end l.best

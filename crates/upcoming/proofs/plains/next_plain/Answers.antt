@@ -1,33 +1,37 @@
-use Rattle.std.proofs.Common.{◌≤◌, arith}
+use Rattle.std.proofs.Common.{◌≤◌, Option, sym, subst, arith}
 use Rattle.series.specs.Plans.{plan_of}
+use Rattle.upcoming.specs.declared.keys.Key.{Key}
+use Rattle.upcoming.specs.Kinds.{Plain}
+use Rattle.upcoming.specs.Least.{Next}
 use Rattle.upcoming.proofs.Finds.{all_mem}
 use Rattle.upcoming.proofs.Windows.{none_plain, past_end, least_plain}
 use Rattle.upcoming.proofs.plains.next_plain.Goals as goal
 
-pub returns-in_default : goal.returns-in_default
-returns-in_default g c =
+pub returns-in_err-day : goal.returns-in_err-day
+returns-in_err-day g c =
     let s = c.args.series.now in
-    none_plain (plan_of g.S.Source.days s) (g.met.S.Source.bounded s.source) c.minute-clock.result c.args.start c.args.day c.first_day.result c.minute-clock.ensures.value c.first_day.ensures.before c.args.end c.in_default.ensures
+    subst (λ (r : Option Key). Next (Plain (plan_of g.S.Source.days s)) c.args.from.start c.args.from.day c.args.end r) (sym c.from_residual.ensures)
+    (none_plain (plan_of g.S.Source.days s) (g.met.S.Source.bounded s.repeats.source) c.minutes-clock.result c.args.from.start c.args.from.day c.first_day.result c.minutes-clock.ensures.value c.first_day.ensures.before c.args.end c.in_err-day.ensures)
 
-pub overflow_mul-at : goal.overflow_mul-at
-overflow_mul-at g c =
-    let l : c.in-Some.found ≤ 109572 = all_mem (λ d. d ≤ 109572) _ (g.met.S.Source.bounded c.args.series.now.source) c.in-Some.found c.in-Some.ensures.among in
+pub overflow_mul-start : goal.overflow_mul-start
+overflow_mul-start g c =
+    let l : c.in_ok-day.day ≤ 109572 = all_mem (λ d. d ≤ 109572) _ (g.met.S.Source.bounded c.args.series.now.repeats.source) c.in_ok-day.day c.in_ok-day.ensures.among in
     omega arith
 
-pub overflow_add-at : goal.overflow_add-at
-overflow_add-at g c =
-    let l : c.in-Some.found ≤ 109572 = all_mem (λ d. d ≤ 109572) _ (g.met.S.Source.bounded c.args.series.now.source) c.in-Some.found c.in-Some.ensures.among in
-    let b = c.minute-clock.ensures.bound in
+pub overflow_add-start : goal.overflow_add-start
+overflow_add-start g c =
+    let l : c.in_ok-day.day ≤ 109572 = all_mem (λ d. d ≤ 109572) _ (g.met.S.Source.bounded c.args.series.now.repeats.source) c.in_ok-day.day c.in_ok-day.ensures.among in
+    let b = c.minutes-clock.ensures.bound in
     omega arith
 
-pub returns-then-at-end : goal.returns-then-at-end
-returns-then-at-end g c =
+pub returns-then-start-end : goal.returns-then-start-end
+returns-then-start-end g c =
     let s = c.args.series.now in
-    let f = c.in-Some.ensures in
-    let e = c.in-Some.found in
-    least_plain (plan_of g.S.Source.days s) (g.met.S.Source.bounded s.source) c.minute-clock.result c.args.start c.args.day c.first_day.result c.minute-clock.ensures.value c.first_day.ensures.before c.args.end e f (c.first_day.ensures.from e f.from) c.if-at-end.true
+    let f = c.in_ok-day.ensures in
+    let e = c.in_ok-day.day in
+    least_plain (plan_of g.S.Source.days s) (g.met.S.Source.bounded s.repeats.source) c.minutes-clock.result c.args.from.start c.args.from.day c.first_day.result c.minutes-clock.ensures.value c.first_day.ensures.before c.args.end e f (c.first_day.ensures.from e f.from) c.if-start-end.true
 
-pub returns-else-at-end : goal.returns-else-at-end
-returns-else-at-end g c =
+pub returns-else-start-end : goal.returns-else-start-end
+returns-else-start-end g c =
     let s = c.args.series.now in
-    past_end (plan_of g.S.Source.days s) (g.met.S.Source.bounded s.source) c.minute-clock.result c.args.start c.args.day c.first_day.result c.minute-clock.ensures.value c.first_day.ensures.before c.args.end c.in-Some.found c.in-Some.ensures c.if-at-end.false
+    past_end (plan_of g.S.Source.days s) (g.met.S.Source.bounded s.repeats.source) c.minutes-clock.result c.args.from.start c.args.from.day c.first_day.result c.minutes-clock.ensures.value c.first_day.ensures.before c.args.end c.in_ok-day.day c.in_ok-day.ensures c.if-start-end.false

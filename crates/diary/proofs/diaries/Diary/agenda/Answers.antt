@@ -14,10 +14,10 @@ returns g c =
     let long : length c.as_mut_slice.result.now ≡ vec_len c.args.self.now.nodes = c.as_mut_slice.ensures.len in
     let cases = λ (room : 2 * g.St.Store.limit store ≤ vec_len c.args.self.now.nodes). c.agenda.ensures.cases (omega arith) in
     record {
-      kept = c.agenda.ensures.kept;
+      stays = c.agenda.ensures.stays;
       cases = cases;
       crowded = λ (short : vec_len c.args.self.now.nodes < 2 * length pairs). c.agenda.ensures.crowded (omega arith);
       unchanged = (refl, refl, search rules);
-      lines = λ h log ex room. printed_explained h (state_of days pairs log slots) ex (plans_ascend days pairs (g.met.St.Store.ascending store)) c.args.from c.args.end c.args.octets.now c.agenda.new.octets c.args.len.now c.agenda.new.len c.agenda.result (cases room);
-      explained = λ h log ex. asked_explained h (state_of days pairs log slots) c.args.from c.args.end c.agenda.result _ ex;
+      lines = λ h log ex room. printed_explained h (state_of days pairs log slots) ex (plans_ascend days pairs (g.met.St.Store.ascending store)) c.args.window c.args.page.now c.agenda.new.page c.agenda.result (cases room);
+      explained = λ h log ex. asked_explained h (state_of days pairs log slots) c.args.window.from c.args.window.end c.agenda.result _ ex;
     }

@@ -15,23 +15,20 @@ invariant_of-self g c =
     let up = ascends ps t.rising in
     record { few = t.few; reserved = t.reserved; rising = ap climbs (set_placed q ps c.in-Ok.place up c.in-Ok.ensures.1) ∙ climb _ (ascends_placed q ps up) }
 
-pub returns-in-Ok : goal.returns-in-Ok
-returns-in-Ok g c =
+pub returns-in-Ok-clause-cases : goal.returns-in-Ok-clause-cases
+returns-in-Ok-clause-cases g c =
     let t = c.args.self.now in
     let ps = vec_items t.rows in
-    record { cases = set_placed c.args.pair ps c.in-Ok.place (ascends ps t.rising) c.in-Ok.ensures.1; capacity = refl }
+    set_placed c.args.pair ps c.in-Ok.place (ascends ps t.rising) c.in-Ok.ensures.1
 
-pub returns-then-len-self : goal.returns-then-len-self
-returns-then-len-self g c =
+pub returns-then-len-self-clause-cases : goal.returns-then-len-self-clause-cases
+returns-then-len-self-clause-cases g c =
     let t = c.args.self.now in
     let ps = vec_items t.rows in
-    record {
-      cases = record { number = refl; new_uid = held_gap (key c.args.pair) ps c.in-Err.place c.in-Err.ensures.1; no_room = omega arith; unchanged = refl };
-      capacity = refl;
-    }
+    record { number = refl; new_uid = held_gap (key c.args.pair) ps c.in-Err.place c.in-Err.ensures.1; no_room = omega arith; unchanged = refl }
 
-pub invariant_of-self-else-is_err : goal.invariant_of-self-else-is_err
-invariant_of-self-else-is_err g c =
+pub invariant_of-self-in-Err : goal.invariant_of-self-in-Err
+invariant_of-self-in-Err g c =
     let t = c.args.self.now in
     let ps = vec_items t.rows in
     let q = c.args.pair in
@@ -39,10 +36,7 @@ invariant_of-self-else-is_err g c =
     let n : vec_len c.insert.new.self ≡ vec_len t.rows + 1 = c.insert.ensures.len ∙ cond-true (is_ok c.insert.result) _ _ ok in
     record { few = omega arith; reserved = omega (arith, c.insert.ensures.capacity); rising = ap climbs (c.insert.ensures.items ∙ cond-true (is_ok c.insert.result) _ _ ok ∙ inserted_placed q ps c.in-Err.place c.in-Err.ensures.1) ∙ climb _ (ascends_placed q ps (ascends ps t.rising)) }
 
-pub returns-else-is_err : goal.returns-else-is_err
-returns-else-is_err g c =
+pub returns-else-len-self-clause-cases : goal.returns-else-len-self-clause-cases
+returns-else-len-self-clause-cases g c =
     let ok : is_ok c.insert.result ≡ true = c.insert.ensures.succeeds (omega arith) in
-    record {
-      cases = c.insert.ensures.items ∙ cond-true (is_ok c.insert.result) _ _ ok ∙ inserted_placed c.args.pair (vec_items c.args.self.now.rows) c.in-Err.place c.in-Err.ensures.1;
-      capacity = refl;
-    }
+    c.insert.ensures.items ∙ cond-true (is_ok c.insert.result) _ _ ok ∙ inserted_placed c.args.pair (vec_items c.args.self.now.rows) c.in-Err.place c.in-Err.ensures.1

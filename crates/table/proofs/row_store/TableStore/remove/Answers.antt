@@ -1,4 +1,4 @@
-use Rattle.std.proofs.Common.{vec_items, sym, refl, ap, ◌∙◌, arith}
+use Rattle.std.proofs.Common.{vec_items, sym, ap, ◌∙◌, arith}
 use Rattle.series.specs.Values.{uid_octets}
 use Rattle.store.proofs.Holdings.{ascends_without, without_absent}
 use Rattle.store.proofs.Spots.{removed_without, held_gap}
@@ -14,17 +14,14 @@ invariant_of-self g c =
     let up = ascends ps t.rising in
     record { few = omega arith; reserved = omega arith; rising = ap climbs (c.remove.ensures.items ∙ removed_without u ps c.in-Ok.place up c.in-Ok.ensures.1) ∙ climb _ (ascends_without u ps up) }
 
-pub returns-in-Ok : goal.returns-in-Ok
-returns-in-Ok g c =
+pub returns-in-Ok-clause-pairs : goal.returns-in-Ok-clause-pairs
+returns-in-Ok-clause-pairs g c =
     let t = c.args.self.now in
     let ps = vec_items t.rows in
-    record {
-      pairs = c.remove.ensures.items ∙ removed_without (uid_octets c.args.uid.now) ps c.in-Ok.place (ascends ps t.rising) c.in-Ok.ensures.1;
-      capacity = refl;
-    }
+    c.remove.ensures.items ∙ removed_without (uid_octets c.args.uid.now) ps c.in-Ok.place (ascends ps t.rising) c.in-Ok.ensures.1
 
-pub returns-in_default : goal.returns-in_default
-returns-in_default g c =
+pub returns-in_default-clause-pairs : goal.returns-in_default-clause-pairs
+returns-in_default-clause-pairs g c =
     let ps = vec_items c.args.self.now.rows in
     let u = uid_octets c.args.uid.now in
-    record { pairs = sym (without_absent u ps (held_gap u ps c.in_default.field-0 c.in_default.ensures.1)); capacity = refl }
+    sym (without_absent u ps (held_gap u ps c.in_default.field-0 c.in_default.ensures.1))
