@@ -6,11 +6,13 @@
 set -eu
 cd "$(dirname "$0")/.."
 program=crates/agenda/out/agenda
+printed=$(mktemp)
+trap 'rm -f "$printed"' EXIT
 count() { # the instructions of one run
-    valgrind --tool=callgrind --callgrind-out-file=/dev/null "$program" "$@" 2>&1 >/tmp/first_at.lines |
+    valgrind --tool=callgrind --callgrind-out-file=/dev/null "$program" "$@" 2>&1 >"$printed" |
         sed -n 's/.*Collected : //p'
 }
-lines() { grep -c , /tmp/first_at.lines || true; }
+lines() { grep -c , "$printed" || true; }
 printf '%-42s %14s %14s %14s\n' 'rule (instructions a line)' start middle 'near 2199'
 row() { # rule, start, then the first and last day of four windows: none, start, middle, end
     rule=$1 start=$2

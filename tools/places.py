@@ -191,6 +191,7 @@ def switches(all_functions):
                 yield f.where
 
 
+CHOICES = r"\{\s*Some\([^{}]*(?:\{[^{}]*\})?[^{}]*\)\s*\} else \{\s*None\s*\}"
 LEAVES = r"let (?:Some|Ok)\([^;{]*\) = [^;]*? else \{\s*return [^;]*;"
 RESPELT = r"(?:Err\(\w+\)|None) => (?:None|return None|Err\(|return Err\()|Some\(_\) => (?:true|1)|Ok\((\w+)\) => (?:Some\(\1\)|Ok\(\1\)|\1,)|if let Some\((\w+)\) = [^{]*\{\s*return Err\(\2\)"
 
@@ -199,20 +200,21 @@ def main():
     fs = functions()
     index = list(grep(r"\bfor \w+ in [^{;]*\.\.[^{;]*\{", r"\b(?:while|loop)\b[^{;]*\{"))
     rows = [
-        ("1 own enums of two or three cases, one of them with a value", list(enums())),
-        ("1 what a method of Option or Result says, spelt out", list(grep(RESPELT))),
-        ("1 let-else that leaves with a value", list(grep(LEAVES))),
-        ("1 flags in a struct", list(grep(r"\n\s*(?:pub(?:\(crate\))? )?\w+: bool,\n(?!\s*\w+: )"))),
-        ("1 numbers for absence, by their comments", list(grep(r"//[^\n]*(?:, or `end`|or 0\b|or some day|end` too)", comments=True))),
-        ("2 functions alike but for names and numbers", list(twins(fs))),
-        ("2 types with two or more fields or cases of the same names", list(twin_types())),
-        ("3 loops over an index, while and loop", index),
-        ("3 other for loops", [x for x in grep(r"\bfor [^{;]* in [^{;]*\{") if x not in index]),
-        ("4 equality, order, conversion and printing by hand", list(by_hand(fs))),
-        ("5 parameters together in three or more functions", list(together(fs))),
-        ("5 facts required by three or more functions", list(facts(fs))),
-        ("6 a buffer with a number beside it", list(buffers())),
-        ("7 a match that only picks a function", list(switches(fs))),
+        ("options: own enums of two or three cases, one of them with a value", list(enums())),
+        ("options: what a method of Option or Result says, spelt out", list(grep(RESPELT))),
+        ("options: an Option chosen by an if", list(grep(CHOICES))),
+        ("options: let-else that leaves with a value", list(grep(LEAVES))),
+        ("options: flags in a struct", list(grep(r"\n\s*(?:pub(?:\(crate\))? )?\w+: bool,\n(?!\s*\w+: )"))),
+        ("options: numbers for absence, by their comments", list(grep(r"//[^\n]*(?:, or `end`|or 0\b|or some day|end` too)", comments=True))),
+        ("twins: functions alike but for names and numbers", list(twins(fs))),
+        ("twins: types with two or more fields or cases of the same names", list(twin_types())),
+        ("loops: over an index, while and loop", index),
+        ("loops: other for loops", [x for x in grep(r"\bfor [^{;]* in [^{;]*\{") if x not in index]),
+        ("by hand: equality, order, conversion and printing by hand", list(by_hand(fs))),
+        ("together: parameters together in three or more functions", list(together(fs))),
+        ("together: facts required by three or more functions", list(facts(fs))),
+        ("buffers: a buffer with a number beside it", list(buffers())),
+        ("switches: a match that only picks a function", list(switches(fs))),
     ]
     for name, places in rows:
         print(f"{len(places):4} {name}")

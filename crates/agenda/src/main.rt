@@ -55,6 +55,7 @@ fn run(rt: &HostRuntime) -> anyhow::Result<ExitCode> {
         .iter()
         .map(|word| word.as_slice())
         .collect::<Vec<&[u8]>>(heap)?;
+    // no map_err: the other arm prints and leaves
     let command = match read(words.as_slice()) {
         Ok(command) => command,
         Err(fault) => {
@@ -66,14 +67,10 @@ fn run(rt: &HostRuntime) -> anyhow::Result<ExitCode> {
         }
     };
     let mut octets = vec![in heap; 0u8; PAGE_OCTETS]?;
-    let mut page = Page {
-        octets: octets.as_mut_slice(),
-        len: 0,
-    };
+    let mut page = Page::new(octets.as_mut_slice());
     match print(&command, &mut page) {
         Ok(_) => {
-            let Page { octets, len } = page;
-            rt.stdout().write_all(&octets[..len])?;
+            rt.stdout().write_all(page.written())?;
             Ok(ExitCode::SUCCESS)
         }
         Err(refusal) => {

@@ -2,7 +2,7 @@
 #![tactic(auto)]
 
 use anyhow::anyhow;
-use calendar::starts::Moment;
+use calendar::starts::{DAY_MINUTES, Moment, STARTS_END};
 use calendar::windows::Window;
 use dates::dates::DateList;
 use dates::unions::Union;
@@ -27,8 +27,8 @@ const PAGE_OCTETS: usize = 4 * 1024 * 1024;
 
 // The minutes of 2024.
 const YEAR_2024: Window = Window {
-    from: 45_290 * 1440,
-    end: 45_656 * 1440,
+    from: 45_290 * DAY_MINUTES,
+    end: 45_656 * DAY_MINUTES,
 };
 
 // The number that an argument is.
@@ -51,9 +51,9 @@ fn weekly(first: u32, number: u32) -> Result<Entry<'static, Union<Rule>>, Refusa
             day,
             change: Change::Altered(Alteration {
                 start: day
-                    .saturating_mul(1440)
+                    .saturating_mul(DAY_MINUTES)
                     .saturating_add(2000)
-                    .min(157_785_119),
+                    .min(STARTS_END - 1),
                 text: Text::new(b"Moved")?,
             }),
         }])?,
@@ -89,10 +89,7 @@ fn main(rt: HostRuntime) -> anyhow::Result<()> {
         }
     }
     let mut octets = vec![in heap; 0; PAGE_OCTETS]?;
-    let mut page = Page {
-        octets: octets.as_mut_slice(),
-        len: 0,
-    };
+    let mut page = Page::new(octets.as_mut_slice());
     let mut lines = 0;
     for _ in 0..times {
         page.len = 0;

@@ -41,6 +41,7 @@ impl fmt::Display for Argument {
 }
 
 impl Argument {
+    // The bounds in words: the Display of an argument is its name, and the readers hold the numbers.
     fn bounds(self) -> &'static str {
         match self {
             Argument::Uid => {

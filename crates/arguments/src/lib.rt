@@ -1,4 +1,4 @@
-// The command line of the program `agenda`: its six arguments, what is wrong with them, and the job they ask for.
+// The command line of the program `agenda`: its six or seven arguments, what is wrong with them, and the job they ask for.
 #![tactic(auto)]
 
 pub mod faults;

@@ -13,13 +13,14 @@ use refusal::Refusal;
 use source::sources::Source;
 
 // The window in minutes: both days are whole.
-fn window_of(days: Days) -> Window
-    ensures value { result ≡ window_of days }
-    ensures sound { is_window result.from result.end ≡ true }
-{
-    Window {
-        from: days.first * DAY_MINUTES,
-        end: (days.last + 1) * DAY_MINUTES,
+impl From<Days> for Window {
+    ghost from_gives = { λ days window. (window ≡ window_of days) × (is_window window.from window.end ≡ true) };
+
+    fn from(days: Days) -> Window {
+        Window {
+            from: days.first * DAY_MINUTES,
+            end: (days.last + 1) * DAY_MINUTES,
+        }
     }
 }
 
@@ -38,7 +39,7 @@ fn put_job<S: Source>(job: &Job<S>, page: &mut Page) -> Result<usize, Refusal>
     ensures stays { Stays page.old page.new }
     ensures cases { MatchResult result (λ n. (n ≡ job_lines S.Source.days job.now) × Puts (job_text S.Source.days job.now) page.old page.new) (λ e. Breaks (job_text S.Source.days job.now) page.old e) }
 {
-    let lines = job.event.agenda(window_of(job.days), page)?;
+    let lines = job.event.agenda(Window::from(job.days), page)?;
     put_total(lines, job.days, page)?;
     Ok(lines)
 }

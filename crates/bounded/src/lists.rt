@@ -10,7 +10,7 @@ pub struct Bounded<T, const N: usize> {
     ghost few: { len ≤ N },
 }
 
-// Neither can be derived beside a ghost field.
+// By hand: beside a ghost field, `derive` is refused for a struct that is generic in a type (`derive-over-ghost-field`).
 impl<T: Copy, const N: usize> Clone for Bounded<T, N> {
     ghost is_clone = { λ b c. c ≡ b };
 

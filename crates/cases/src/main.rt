@@ -2,7 +2,7 @@
 #![tactic(auto)]
 
 use calendar::days::date_of;
-use calendar::starts::Moment;
+use calendar::starts::{DAY_MINUTES, Moment};
 use notation::dates::read_day;
 use notation::digits::numeral_of;
 use page::pages::Page;
@@ -25,10 +25,7 @@ fn start_of_row(row: &[u8]) -> Option<Moment> {
     let day = read_day(field(row, 0)).ok()?;
     let clock = numeral_of(field(row, 1), 4, 4)?;
     let minutes = clock / 100 * 60 + clock % 100;
-    if minutes > 1439 {
-        return None;
-    }
-    Some(Moment {
+    (minutes < DAY_MINUTES).then_some(Moment {
         day,
         clock: minutes as u16,
     })
@@ -48,13 +45,12 @@ fn begin_with<S: Source>(days: &mut Walk<'_, S>, dates: &[u8]) -> bool {
     true
 }
 
-// A row of start, clock, rule, whether the start is in the rule, whether the list is whole, the list, and its origin.
-fn rule_holds(row: &[u8]) -> bool {
-    let Some(start) = start_of_row(row) else {
-        return false;
-    };
+// A row of start, clock, rule, whether the start is in the rule, whether the list is whole, the list, and its origin;
+// none where the start has not its form.
+fn rule_agrees(row: &[u8]) -> Option<bool> {
+    let start = start_of_row(row)?;
     let picked = field(row, 3) == b"yes".as_slice();
-    match read_rule(field(row, 2), start) {
+    Some(match read_rule(field(row, 2), start) {
         Err(refusal) => !picked && refusal == Refusal::StartNotPicked,
         Ok(rule) => {
             let mut days = days_from(&rule, 0);
@@ -62,7 +58,11 @@ fn rule_holds(row: &[u8]) -> bool {
                 && begin_with(&mut days, field(row, 5))
                 && (field(row, 4) == b"no".as_slice() || days.next().is_none())
         }
-    }
+    })
+}
+
+fn rule_holds(row: &[u8]) -> bool {
+    rule_agrees(row).unwrap_or(false)
 }
 
 // The start and the recurrence of a rule as their lines, parted by a bar.
@@ -81,15 +81,12 @@ fn writes(rule: &Rule, clock: u16, lines: &[u8]) -> bool {
     if is_empty(rule) {
         return lines.is_empty();
     }
-    let mut page = Page {
-        octets: &mut [0; 512],
-        len: 0,
-    };
+    let mut octets = [0; 512];
+    let mut page = Page::new(&mut octets);
     if put_lines(&mut page, rule, clock).is_err() {
         return false;
     }
-    let Page { octets, len } = page;
-    octets.iter().take(len).eq(lines.iter())
+    page.written() == lines
 }
 
 // A row of start, clock, rule, the day of the cut, head or tail, the number of days, the first of them, and the lines written;

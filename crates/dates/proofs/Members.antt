@@ -78,7 +78,7 @@ joined_alone xs ys a zs b h = same_days zs (merged xs ys) b (merged_ascends xs y
 -- what is asked of a union is asked of both of its sides
 module _ (xs : List ℕ) (l : DateList) (a : Ascending xs) (d : ℕ) where
   sides : BothSides xs (date_days l)
-  sides = both_sides xs (date_days l) a (climbs_ascend 0 (date_days l) l.sound)
+  sides = both_sides xs (date_days l) a (climbs_ascend 0 (date_days l) l.days.sound)
 
   pub union_first : first_from d (merged xs (date_days l)) ≡ sooner (first_from d xs) (first_from d (date_days l))
   union_first = sides.first d

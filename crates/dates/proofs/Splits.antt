@@ -1,6 +1,5 @@
 -- Where a number cuts an ascending list, by places.
-use Rattle.std.proofs.Common.{◌≡◌, ℕ, zero, suc, ◌<◌, ◌≤◌, List, [], ◌∷◌, length, get_or, take, drop, sym, refl, ap, ◌∙◌, ⊎_elim, arith}
-use Rattle.std.proofs.ByRecursion.{All-get_or}
+use Rattle.std.proofs.Common.{◌≡◌, ℕ, zero, suc, true, ◌<◌, ◌≤◌, List, [], ◌∷◌, length, get_or, take, drop, sym, refl, ap, ◌∙◌, ⊎_elim, arith}
 use Rattle.std.proofs.lemmas.List.{drop_more, drop_all}
 use Rattle.std.proofs.lemmas.Bool.{cases_lt, lt-ltb, le-ltb, lt-leb}
 use Rattle.lookup.specs.Places.{Present, Absent}
@@ -8,13 +7,12 @@ use Rattle.source.specs.Days.{Ascending, before, since, head_of}
 use Rattle.dates.specs.declared.dates.DateList.{DateList}
 use Rattle.dates.specs.Dates.{date_days, Split}
 use Rattle.source.specs.Ascents.{before_none, since_whole, from_first}
+use Rattle.bounded.specs.Climbing.{climb_rises}
+use Rattle.dates.specs.Climbs.{climbs}
 use Rattle.dates.specs.Climbing.{climbs_ascend}
 
-pub ascending_rises : (xs : List ℕ) → Ascending xs → (i j d : ℕ) → i < j → j < length xs → get_or xs i d < get_or xs j d
-ascending_rises [] a i j d p q = absurd (omega arith)
-ascending_rises (x ∷ xs) a i zero d p q = absurd (omega arith)
-ascending_rises (x ∷ xs) a zero (suc j) d p q = All-get_or (λ y. x < y) xs j d (omega arith) a.0
-ascending_rises (x ∷ xs) a (suc i) (suc j) d p q = ascending_rises xs a.1 i j d (omega arith) (omega arith)
+pub days_rise : (xs : List ℕ) → climbs 0 xs ≡ true → (i j d : ℕ) → i < j → j < length xs → get_or xs i d < get_or xs j d
+days_rise xs h i j d p q = climb_rises (λ (d : ℕ). d) (λ _. true) 0 xs h i j d p q
 
 -- the first n lie before d, and no other
 pub record Parted (xs : List ℕ) (d n : ℕ) : Type 0 where
@@ -22,10 +20,10 @@ pub record Parted (xs : List ℕ) (d n : ℕ) : Type 0 where
   pub under : (j : ℕ) → j < n → get_or xs j 0 < d
   pub over : n < length xs → d ≤ get_or xs n 0
 
-pub part_present : (xs : List ℕ) (d n : ℕ) → Ascending xs → Present (λ a k. a ≡ k) xs d n → Parted xs d n
-part_present xs d n a p = record {
+pub part_present : (xs : List ℕ) (d n : ℕ) → climbs 0 xs ≡ true → Present (λ a k. a ≡ k) xs d n → Parted xs d n
+part_present xs d n h p = record {
   within = omega (arith, p.within);
-  under = λ j l. omega (arith, p.there 0, ascending_rises xs a j n 0 l p.within);
+  under = λ j l. omega (arith, p.there 0, days_rise xs h j n 0 l p.within);
   over = λ l. omega (arith, p.there 0);
 }
 
@@ -58,7 +56,7 @@ drop_since (x ∷ xs) d (suc n) a c = rw (lt-leb d x (c.under 0 (omega arith))) 
 pub split : (l : DateList) (d n : ℕ) → Parted (date_days l) d n → Split l d n
 split l d n c =
     let xs = date_days l in
-    let a : Ascending xs = climbs_ascend 0 xs l.sound in
+    let a : Ascending xs = climbs_ascend 0 xs l.days.sound in
     record {
       within = c.within;
       first =

@@ -1,31 +1,20 @@
 -- Climbing lists: their parts, and that they ascend within bounds.
-use Rattle.std.specs.Prelude.{◌≡◌, ℕ, zero, suc, ◌+◌, ◌<◌, ◌≤◌, true, List, [], ◌∷◌, take, drop, refl}
-use Rattle.std.proofs.Common.{◌∙◌, arith}
+use Rattle.std.specs.Prelude.{◌≡◌, ℕ, ◌+◌, ◌<◌, ◌≤◌, true, List, [], ◌∷◌, take, drop}
+use Rattle.std.proofs.Common.{arith}
 use Rattle.std.specs.List.{AllByRecursion}
 use Rattle.std.proofs.ByRecursion.{All-weaker}
 use Rattle.source.specs.Days.{Ascending}
-use Rattle.bounded.specs.Climbing.{Climbs, climbs_first, climbs_on}
+use Rattle.bounded.specs.Climbing.{Climbs, climbs_first, climb_take, climb_drop}
 use Rattle.dates.specs.Climbs.{climbs}
 
 step : (n x : ℕ) (xs : List ℕ) → climbs n (x ∷ xs) ≡ true → Climbs (λ (d : ℕ). d) (λ _. true) n x xs
 step n x xs h = climbs_first (λ (d : ℕ). d) (λ _. true) n x xs h
 
-climb : (n x : ℕ) (xs : List ℕ) → n ≤ x → x ≤ 109572 → climbs (x + 1) xs ≡ true → climbs n (x ∷ xs) ≡ true
-climb n x xs low high h = climbs_on (λ (d : ℕ). d) (λ _. true) n x xs low high refl ∙ h
-
-climbs_lower : (m n : ℕ) (xs : List ℕ) → m ≤ n → climbs n xs ≡ true → climbs m xs ≡ true
-climbs_lower m n [] l h = refl
-climbs_lower m n (x ∷ xs) l h = let s = step n x xs h in climb m x xs (omega (arith, s.low)) s.high s.rest
-
 pub climbs_take : (n k : ℕ) (xs : List ℕ) → climbs n xs ≡ true → climbs n (take k xs) ≡ true
-climbs_take n zero xs h = refl
-climbs_take n (suc k) [] h = refl
-climbs_take n (suc k) (x ∷ xs) h = let s = step n x xs h in climb n x (take k xs) s.low s.high (climbs_take (x + 1) k xs s.rest)
+climbs_take n k xs h = climb_take (λ (d : ℕ). d) (λ _. true) n k xs h
 
 pub climbs_drop : (n k : ℕ) (xs : List ℕ) → climbs n xs ≡ true → climbs 0 (drop k xs) ≡ true
-climbs_drop n zero xs h = climbs_lower 0 n xs (omega arith) h
-climbs_drop n (suc k) [] h = refl
-climbs_drop n (suc k) (x ∷ xs) h = climbs_drop (x + 1) k xs (step n x xs h).rest
+climbs_drop n k xs h = climb_drop (λ (d : ℕ). d) (λ _. true) n k xs h
 
 climbs_from : (n : ℕ) (xs : List ℕ) → climbs n xs ≡ true → AllByRecursion (λ y. n ≤ y) xs
 climbs_from n [] h = tt

@@ -5,7 +5,7 @@ use Rattle.dates.specs.declared.dates.DateList.{DateList}
 use Rattle.source.specs.Days.{before, since, first_from}
 
 abbrev pub date_days : DateList → List ℕ
-date_days l = held l.days
+date_days l = held l.days.list
 
 -- of the days of a date list n lie before d
 pub record Split (l : DateList) (d n : ℕ) : Type 0 where

@@ -6,8 +6,7 @@ ghost use Rattle.dates.specs.Dates.{date_days, Split};
 ghost use Rattle.dates.specs.Climbing.{climbs_ascend, climbs_bounded};
 
 use crate::dates::DateList;
-use bounded::dated::climb;
-use bounded::lists::Bounded;
+use bounded::climbing::Climbing;
 use lookup::find;
 use refusal::Refusal;
 use source::sources::Source;
@@ -17,11 +16,8 @@ impl DateList {
     pub fn new(days: &[u32]) -> Result<DateList, Refusal>
         ensures { MatchResult result (λ l. (holdable days.now ≡ true) × (date_days l ≡ days.now)) (λ e. (holdable days.now ≡ false) × (number e ≡ 8)) }
     {
-        let held = Bounded::new(days, 0).ok_or(Refusal::OutOfBounds)?;
-        if !climb(days) {
-            return Err(Refusal::OutOfBounds);
-        }
-        Ok(DateList { days: held })
+        let days = Climbing::new(days, 0).ok_or(Refusal::OutOfBounds)?;
+        Ok(DateList { days })
     }
 
     // How many days lie before `day`.
@@ -37,9 +33,9 @@ impl DateList {
 impl Source for DateList {
     ghost days = { date_days };
 
-    ghost ascending = { λ s. climbs_ascend 0 (date_days s) s.sound };
+    ghost ascending = { λ s. climbs_ascend 0 (date_days s) s.days.sound };
 
-    ghost bounded = { λ s. climbs_bounded 0 (date_days s) s.sound };
+    ghost bounded = { λ s. climbs_bounded 0 (date_days s) s.days.sound };
 
     fn first_at(&self, day: u32) -> Option<u32> {
         self.days.as_slice().get(self.place(day)).copied()

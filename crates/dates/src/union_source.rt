@@ -25,7 +25,7 @@ impl<S: Source> Source for Union<S> {
 
     ghost ascending = { λ u. merged_ascends (S.Source.days u.first) (date_days u.dates) (S.Source.ascending u.first) };
 
-    ghost bounded = { λ u. all_merged (λ d. d ≤ 109572) (S.Source.days u.first) (date_days u.dates) (S.Source.bounded u.first) (climbs_bounded 0 (date_days u.dates) u.dates.sound) };
+    ghost bounded = { λ u. all_merged (λ d. d ≤ 109572) (S.Source.days u.first) (date_days u.dates) (S.Source.bounded u.first) (climbs_bounded 0 (date_days u.dates) u.dates.days.sound) };
 
     #[tactic(auto, using(crate::proofs::Members::union_first))]
     fn first_at(&self, day: u32) -> Option<u32> {

@@ -1,15 +1,14 @@
 -- What is printed of a diary is printed of the history that explains it.
-use Rattle.std.proofs.Common.{ℕ, List, Ok, Err, Result, MatchResult}
+use Rattle.std.proofs.Common.{ℕ, Ok, Err, Result, MatchResult}
 use Rattle.calendar.specs.declared.windows.Window.{Window}
 use Rattle.page.specs.declared.pages.Page.{Page}
 use Rattle.refusal.specs.declared.Refusal.{Refusal}
 use Rattle.history.specs.Explains.{Explains}
-use Rattle.history.specs.Histories.{History, agenda, fed}
+use Rattle.history.specs.Histories.{History}
 use Rattle.history.specs.Items.{read}
 use Rattle.history.specs.States.{State, Ascends, occurrences}
 use Rattle.history.proofs.Explained.{agenda_explained}
 use Rattle.merge.specs.Printed.{Printed, Refused}
-use Rattle.diary.specs.States.{printed_as}
 
 module _ (h : History) (st : State) (ex : Explains h st) (asc : Ascends st.plans) (w : Window) (p q : Page) where
   pub printed_explained : (r : Result ℕ Refusal)
@@ -27,8 +26,3 @@ module _ (h : History) (st : State) (ex : Explains h st) (asc : Ascends st.plans
     short = λ i k a. c.short i k ((agenda_explained h st ex asc w.from w.end k).1 a);
     len = c.len;
   }
-
--- an agenda changes no history, whatever it answers
-pub asked_explained : (h : History) (st : State) (from end : ℕ) (r : Result ℕ Refusal) (octets : List ℕ) → Explains h st → Explains (fed h (agenda from end) (printed_as r octets)) st
-asked_explained h st from end (Ok n) octets ex = ex
-asked_explained h st from end (Err e) octets ex = ex

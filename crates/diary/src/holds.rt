@@ -47,6 +47,7 @@ impl Drafts {
     pub(crate) fn holds(&self, uid: &Uid) -> bool
         ensures { result ≡ any_holds (uid_octets uid.now) self.now.slots }
     {
+        // not flatten(): with it the check finds no proof that `any` speaks of all slots
         self.slots
             .iter()
             .any(|slot| slot.as_ref().is_some_and(|draft| draft.holds(uid)))

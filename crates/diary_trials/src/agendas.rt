@@ -38,13 +38,9 @@ fn two_series(rt: &impl Abort, heap: Global) -> Result<Diary<Table<Interval>>, F
 // Whether the page of a window has these octets.
 fn prints(diary: &mut Diary<Table<Interval>>, from: u32, end: u32, expected: &[u8]) -> bool {
     let mut octets = [0; 200];
-    let mut page = Page {
-        octets: &mut octets,
-        len: 0,
-    };
+    let mut page = Page::new(&mut octets);
     let answer = diary.agenda(Window { from, end }, &mut page);
-    let len = page.len;
-    answer.is_ok() && octets.get(..len).is_some_and(|lines| lines == expected)
+    answer.is_ok() && page.written() == expected
 }
 
 #[test]
@@ -121,17 +117,11 @@ fn a_page_one_octet_short(rt: HostRuntime) -> Result<(), Fail> {
         end: at + 1,
     };
     let mut octets = [0; 21];
-    let mut page = Page {
-        octets: &mut octets,
-        len: 0,
-    };
+    let mut page = Page::new(&mut octets);
     assert_eq!(rt; diary.agenda(window, &mut page), Ok(1));
     assert_eq!(rt; page.len, 21);
     let mut short = [0; 20];
-    let mut page = Page {
-        octets: &mut short,
-        len: 0,
-    };
+    let mut page = Page::new(&mut short);
     assert_eq!(rt; diary.agenda(window, &mut page), Err(Refusal::PageFull));
     assert_eq!(rt; page.len, 0);
     Ok(())

@@ -1,5 +1,4 @@
 // The agenda's lines of one event in a window.
-// A UID and its series stay two parameters: a struct of both would be made in `agenda` alone, and lengthen each clause.
 ghost use Rattle.std.specs.Prelude.{◌≡◌, ℕ, ◌+◌, ◌*◌, ◌<◌, ◌≤◌, length, MatchResult};
 ghost use Rattle.calendar.specs.Years.{last_day};
 ghost use Rattle.page.specs.Pages.{Stays, Puts, Breaks, Lacks};
@@ -48,6 +47,7 @@ impl<S: Source> Event<S> {
         ensures stays { Stays page.old page.new }
         ensures cases { MatchResult result (λ n. (n ≡ length (shown_days S.Source.days self.now.series window)) × Puts (agenda_text S.Source.days self.now.uid self.now.series window) page.old page.new) (λ e. Breaks (agenda_text S.Source.days self.now.uid self.now.series window) page.old e) }
     {
+        // not put(b""): the loop's facts would begin at the page that it leaves, and the promise at the call's
         if page.len > page.octets.len() {
             return Err(Refusal::PageFull);
         }

@@ -91,22 +91,19 @@ module _ {S : Type 0} (days : S → List ℕ) (ps : List (Pair S)) (near : (i s 
     page = added_none p.octets.now p.len h;
   }
 
-module _ {S : Type 0} {days : S → List ℕ} {ps : List (Pair S)} {v : Window} {n : ℕ} {t : List Node} {k : ℕ} {p q : Page} (w : Writing days ps v n t k p q) where
+module _ {S : Type 0} {days : S → List ℕ} {ps : List (Pair S)} {v : Window} {n : ℕ} {t : List Node} {k : ℕ} {p q : Page} {top : Node} (w : Writing days ps v n t k p q) (is : top ≡ node t 1) where
   abbrev P : ℕ → ℕ → ℕ → Type 0
   P = ShowsAt days ps
 
-  abbrev top : Node
-  top = node t 1
-
   root : Top n t top
-  root = tree_top P w.near v.from v.end n t w.nodes w.some w.played w.merging
+  root = subst (λ (x : Node). Top n t x) (sym is) (tree_top P w.near v.from v.end n t w.nodes w.some w.played w.merging)
 
   fresh_root : Fresh P v.from v.end top.place w.nodes top
   fresh_root = top_fresh P w.near v.from v.end n t w.nodes top root w.merging
 
   -- the root has a leaf
-  pub seated : (n + top.place < 2 * n) × (2 * n ≤ length t)
-  seated = let u : top.place < n = root.under in (omega arith, w.room)
+  pub seated : top.place < n
+  seated = root.under
 
   -- and is shown, where it is before the end
   pub shown : top.start < v.end → P top.place top.start top.day
@@ -142,10 +139,8 @@ module _ {S : Type 0} {days : S → List ℕ} {ps : List (Pair S)} {v : Window} 
       omega (arith, w.page.len, w.stays.long, f.short)
 
   -- the leaf of the root moved on, the games above it stand but for its parent's
-  pub replays : (x : Node) → (2 * n ≤ length (set t (n + top.place) x)) × ((n ≤ n + top.place) × ((n + top.place < 2 * n) × ((j : ℕ) → 1 ≤ j → j < n → j ≢ (n + top.place) / 2 → Won (set t (n + top.place) x) j)))
-  replays x =
-      let u : top.place < n = root.under in
-      (omega (arith, w.room, length-set t (n + top.place) x), (omega arith, (omega arith, changed n t (n + top.place) x (omega arith) w.played)))
+  pub replays : (x : Node) → (top.place < n) × ((j : ℕ) → 1 ≤ j → j < n → j ≢ (n + top.place) / 2 → Won (set t (n + top.place) x) j)
+  replays x = (root.under, changed n t (n + top.place) x (omega arith) w.played)
 
   -- and with it, the merge goes on
   pub writes_more : top.start < v.end → (x : Node) (u : List Node) (r : Page) → Cursor (P top.place) top.start (top.day + 1) v.end top.place x

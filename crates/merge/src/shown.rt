@@ -9,7 +9,7 @@ ghost use Rattle.merge.specs.Places.{ShowsAt, named};
 ghost use Rattle.merge.specs.Printed.{occurrence_line};
 
 use calendar::days::date_of;
-use calendar::starts::DAY_MINUTES;
+use calendar::starts::{Moment, moment_of};
 use page::pages::Page;
 use refusal::Refusal;
 use series::changes::Change;
@@ -36,9 +36,10 @@ pub(crate) fn put_node<St: Store>(page: &mut Page, store: &St, top: Node) -> Res
     ensures cases { MatchResult result (λ _. Puts (occurrence_line (named St.Source.Source.days (St.Store.pairs store.now) top)) page.old page.new) (λ e. Lacks (occurrence_line (named St.Source.Source.days (St.Store.pairs store.now) top)) page.old page.new e) }
 {
     let pair = store.at(top.place).unwrap();
+    let Moment { day, clock } = moment_of(top.start).unwrap();
     page.put_line(
-        date_of(top.start / DAY_MINUTES).unwrap(),
-        (top.start % DAY_MINUTES) as u16,
+        date_of(day).unwrap(),
+        clock,
         pair.series.repeats.duration.minutes(),
         pair.uid.as_bytes(),
         text_on(&pair.series, top.day),

@@ -1,4 +1,5 @@
 // Days as yyyymmdd, and moments as yyyymmddThhmm00.
+// A `let .. else` at each mark that parts the text.
 ghost use Rattle.std.specs.Prelude.{◌≡◌, ℕ, ◌+◌, ◌*◌, ◌/◌, ◌%◌, ◌<◌, ◌≤◌, IfOk};
 ghost use Rattle.calendar.specs.Years.{last_day};
 ghost use Rattle.notation.specs.Dates.{date_named, day_named, moment_named};

@@ -8,6 +8,7 @@ use refusal::Refusal;
 fn saturated(octets: &[u8]) -> Option<u32>
     ensures { result ≡ (if all_digits octets.now then Some (min (value_from 0 octets.now) 4294967295) else None) }
 {
+    // a `for`: `try_fold` would hold the same test and step in one closure
     let mut value: u32 = 0;
     for x in octets {
         if !x.is_ascii_digit() {

@@ -1,4 +1,5 @@
 // Intervals as Rn/yyyymmddThhmm00/PmD.
+// A `let .. else` at each mark that parts the text.
 ghost use Rattle.std.specs.Prelude.{◌≡◌, ℕ, ◌+◌, ◌<◌, ◌≤◌, IfOk};
 ghost use Rattle.notation.specs.Intervals.{letter_number, repeat_named, period_named, interval_named};
 ghost use Rattle.notation.specs.Spelling.{Spelling};

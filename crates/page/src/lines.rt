@@ -3,9 +3,10 @@ ghost use Rattle.std.specs.Prelude.{MatchResult};
 ghost use Rattle.page.specs.Pages.{Stays, Puts, Lacks};
 ghost use Rattle.page.specs.Lines.{line_text};
 
-use crate::numbers::{DIGITS, clock_octets, date_octets, decimal_in};
+use crate::numbers::{clock_octets, date_octets};
 use crate::pages::Page;
 use calendar::date::Date;
+use itoa::Buffer;
 use refusal::Refusal;
 
 impl Page<'_> {
@@ -24,8 +25,8 @@ impl Page<'_> {
     {
         let day = date_octets(date);
         let minute = clock_octets(clock);
-        let mut digits = [0; DIGITS];
-        let minutes = decimal_in(&mut digits, duration as usize);
+        let mut digits = Buffer::new();
+        let minutes = digits.format(duration).as_bytes();
         self.put_all(&[
             &day, b",", &minute, b",", minutes, b",", uid, b",", text, b"\n",
         ])

@@ -1,41 +1,13 @@
 // Decimals, dates and clocks on a page.
-// By hand: `write!` says nothing of a write that is refused, and the contracts here do.
-ghost use Rattle.std.specs.Prelude.{◌≡◌, ◌<◌, drop, decimal, MatchResult};
+// Dates and clocks by hand: a width and leading zeros only `write!` has, and it says nothing of a write that is refused.
+ghost use Rattle.std.specs.Prelude.{◌≡◌, decimal, MatchResult};
 ghost use Rattle.page.specs.Pages.{Stays, Puts, Lacks};
 ghost use Rattle.page.specs.Lines.{date_text, clock_text, two};
 
 use crate::pages::Page;
 use calendar::date::Date;
+use itoa::Buffer;
 use refusal::Refusal;
-
-// The most digits that a `usize` has.
-pub(crate) const DIGITS: usize = 20;
-
-// The digits of n, written at the end of a room.
-pub(crate) fn decimal_in(digits: &mut [u8; DIGITS], n: usize) -> &[u8]
-    ensures { result.now ≡ decimal n }
-{
-    let at = fill_decimal(digits, n);
-    &digits[at..]
-}
-
-// Writes the digits of n at the end of `digits`, and answers where they begin.
-fn fill_decimal(digits: &mut [u8; DIGITS], n: usize) -> usize
-    ensures within { result < 20 }
-    ensures value { drop result digits.new ≡ decimal n }
-{
-    // from the last digit on: how many there are is known at the end
-    let mut at = digits.len();
-    let mut rest = n;
-    loop {
-        at -= 1;
-        digits[at] = b'0' + (rest % 10) as u8;
-        if rest < 10 {
-            return at;
-        }
-        rest /= 10;
-    }
-}
 
 // The last two digits of a number, with leading zeros.
 fn two_digits(n: u16) -> [u8; 2]
@@ -72,7 +44,8 @@ impl Page<'_> {
         ensures stays { Stays self.old self.new }
         ensures cases { MatchResult result (λ _. Puts (decimal n) self.old self.new) (λ e. Lacks (decimal n) self.old self.new e) }
     {
-        self.put(decimal_in(&mut [0; DIGITS], n))
+        let mut digits = Buffer::new();
+        self.put(digits.format(n).as_bytes())
     }
 
     // Adds a date as yyyymmdd.

@@ -3,9 +3,10 @@ ghost use Rattle.std.specs.Prelude.{MatchResult};
 ghost use Rattle.page.specs.Pages.{Stays, Puts, Lacks};
 ghost use Rattle.page.specs.Summaries.{summary_text};
 
-use crate::numbers::{DIGITS, date_octets, decimal_in};
+use crate::numbers::date_octets;
 use crate::pages::Page;
 use calendar::date::Date;
+use itoa::Buffer;
 use refusal::Refusal;
 
 impl Page<'_> {
@@ -14,8 +15,8 @@ impl Page<'_> {
         ensures stays { Stays self.old self.new }
         ensures cases { MatchResult result (λ _. Puts (summary_text lines first last) self.old self.new) (λ e. Lacks (summary_text lines first last) self.old self.new e) }
     {
-        let mut digits = [0; DIGITS];
-        let count = decimal_in(&mut digits, lines);
+        let mut digits = Buffer::new();
+        let count = digits.format(lines).as_bytes();
         let begin = date_octets(first);
         let end = date_octets(last);
         self.put_all(&[

@@ -38,9 +38,8 @@ impl Page<'_> {
         ensures stays { Stays self.old self.new }
         ensures cases { MatchResult result (λ _. Puts (flat_map (λ x. x.now) pieces.now) self.old self.new) (λ e. Breaks (flat_map (λ x. x.now) pieces.now) self.old e) }
     {
-        if self.len > self.octets.len() {
-            return Err(Refusal::PageFull);
-        }
+        // refuses a length past the end, where there is no piece
+        self.put(b"")?;
         for piece in pieces {
             self.put(piece)?;
         }

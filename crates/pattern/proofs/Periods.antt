@@ -1,6 +1,7 @@
 -- Periods and their first days.
-use Rattle.std.proofs.Common.{◌≡◌, ℕ, ◌+◌, ◌-◌, ◌*◌, ◌/◌, ◌%◌, ◌<◌, ◌≤◌, Some, None, Option, sym, refl, ap, ◌∙◌, subst, ⊎_elim, arith}
-use Rattle.std.proofs.lemmas.Bool.{cases_lt, cases_Bool}
+use Rattle.std.proofs.Common.{◌≡◌, ℕ, ◌+◌, ◌-◌, ◌*◌, ◌/◌, ◌%◌, ◌<◌, ◌≤◌, true, false, Some, None, Option, leb, sym, refl, ap, ◌∙◌, subst, ⊎_elim, arith}
+use Rattle.std.proofs.lemmas.Bool.{cases_lt, cases_Bool, le-leb, lt-leb}
+use Rattle.std.specs.Bool.{then_some}
 use Rattle.calendar.specs.declared.date.Date.{Date}
 use Rattle.calendar.specs.Years.{is_leap, year_length, year_start, year_of}
 use Rattle.calendar.specs.Months.{before}
@@ -125,6 +126,24 @@ rises Monthly w a b l h =
     let d = dated a (omega arith) in
     from_opens Monthly w a b _ (opens_month w (period Monthly w a) ((period Monthly w a - 1) / 12) ((period Monthly w a - 1) % 12) refl refl (omega (arith, d.year.low, d.month.low))) l h
 rises Yearly w a b l h = from_opens Yearly w a b (year_start (year_of a)) (opens_year w (year_of a) (in_year a (omega arith)).low) l h
+
+-- a day past the calendar is none
+opens_within : (f : Frequency) (w q n : ℕ) → Opens f w q n → OpensIf f w q (then_some (leb n 109572) n)
+opens_within f w q n o =
+    ⊎_elim
+    (λ l. let b : leb n 109572 ≡ true = le-leb n 109572 (omega arith) in rw b o)
+    (λ g. let b : leb n 109572 ≡ false = lt-leb n 109572 (omega arith) in rw b (λ k h. o.under k h (omega arith)))
+    (cases_lt n 109573)
+
+pub day_opens : (w q : ℕ) (r : Option ℕ) → r ≡ then_some (leb q 109572) q → OpensIf Daily w q r
+day_opens w q r e =
+    subst (λ (o : Option ℕ). OpensIf Daily w q o) (sym e)
+    (opens_within Daily w q q (record { under = λ k b l. l; over = λ k b l. l; is = λ l. refl }))
+
+pub week_opens : (w q n : ℕ) (r : Option ℕ) → 1 ≤ q → w ≤ 6 → n ≡ 7 * q + w - 7 → r ≡ then_some (leb n 109572) n → OpensIf Weekly w q r
+week_opens w q n r h l en e =
+    subst (λ (o : Option ℕ). OpensIf Weekly w q o) (sym e)
+    (opens_within Weekly w q n (record { under = λ k b u. omega arith; over = λ k b u. omega arith; is = λ u. omega arith }))
 
 -- the first day of a month, as it is found
 pub month_opens : (w q y m : ℕ) (r : Option ℕ) → y ≡ (q - 1) / 12 → m ≡ (q - 1) % 12 + 1 → 22801 ≤ q

@@ -2,7 +2,7 @@
 use Rattle.std.specs.Prelude.{ℕ, ◌<◌, ◌≤◌}
 use Rattle.recurrence.specs.declared.parts.Pattern.{Pattern}
 
--- what the look at a day asks of its pattern
+-- what `skip` asks of its pattern, at each day
 pub record Usable (p : Pattern) : Type 0 where
   pub some : 1 ≤ p.interval
   pub few : p.interval ≤ 999

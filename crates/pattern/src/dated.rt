@@ -1,10 +1,12 @@
 // A day of the calendar with its date.
-ghost use Rattle.std.specs.Prelude.{◌≡◌, ℕ, ◌+◌, ◌-◌, ◌<◌, ◌≤◌, IfSome, Some, None};
+ghost use Rattle.std.specs.Prelude.{◌≡◌, ℕ, ◌+◌, ◌-◌, ◌<◌, ◌≤◌, Some, None};
+ghost use Rattle.std.specs.Option.{option_map};
 ghost use Rattle.calendar.specs.Years.{is_leap, year_start};
 ghost use Rattle.calendar.specs.Months.{month_length, before};
 ghost use Rattle.pattern.specs.Openings.{DateIs};
 ghost use Rattle.pattern.specs.Picks.{lead, rest, facts};
 
+use crate::day::Day;
 use crate::facts::Facts;
 use calendar::date::Date;
 use calendar::days::{date_of, day_of};
@@ -14,38 +16,36 @@ use calendar::years::is_leap;
 
 #[derive(Clone, Copy)]
 pub(crate) struct Dated {
-    pub(crate) day: u32,
+    pub(crate) day: Day,
     pub(crate) date: Date,
-    ghost known: { day < 109573 },
-    ghost dated: { DateIs day date },
+    ghost dated: { DateIs day.number date },
 }
 
 impl Dated {
-    pub(crate) fn new(day: u32) -> Dated
-        requires { day < 109573 }
+    pub(crate) fn new(day: Day) -> Dated
         ensures { result.day ≡ day }
     {
         Dated {
             day,
-            date: date_of(day).unwrap(),
+            date: date_of(day.number).unwrap(),
         }
     }
 
     // The days of the month, or of the year, before the day.
     fn lead(self, month: bool) -> u16
-        ensures value { result ≡ lead month self.day }
+        ensures value { result ≡ lead month self.day.number }
         ensures bound { result ≤ 365 }
     {
         if month {
             self.date.day as u16 - 1
         } else {
-            (self.day - new_year(self.date.year)) as u16
+            (self.day.number - new_year(self.date.year)) as u16
         }
     }
 
     // The days of the month, or of the year.
     fn span(self, month: bool) -> u16
-        ensures value { result ≡ lead month self.day + 1 + rest month self.day }
+        ensures value { result ≡ lead month self.day.number + 1 + rest month self.day.number }
         ensures bound { result ≤ 366 }
     {
         if month {
@@ -59,7 +59,7 @@ impl Dated {
 
     // Its weekdays are counted in the month or in the year.
     pub(crate) fn facts(self, month: bool) -> Facts
-        ensures { result ≡ facts month self.day }
+        ensures { result ≡ facts month self.day.number }
     {
         let lead = self.lead(month);
         let rest = self.span(month) - 1 - lead;
@@ -67,26 +67,26 @@ impl Dated {
             month: self.date.month,
             day: self.date.day,
             back: length_of(self.date.year, self.date.month) - self.date.day + 1,
-            weekday: weekday_of(self.day),
+            weekday: weekday_of(self.day.number),
             nth: (lead / 7 + 1) as u8,
             last: (rest / 7 + 1) as u8,
         }
     }
 }
 
-// The first day of a month, or none past the calendar.
+// The first day of a month, or none past the calendar. A year and a month are two numbers of a date here, which no type of its own holds.
 #[tactic(auto, using(crate::proofs::Openings::first_is, crate::proofs::Openings::first_past))]
-pub(crate) fn month_start(year: u16, month: u8) -> Option<u32>
+pub(crate) fn month_start(year: u16, month: u8) -> Option<Day>
     requires { (1900 ≤ year) × ((1 ≤ month) × (month ≤ 12)) }
-    ensures there { year < 2200 → result ≡ Some (year_start year + before (is_leap year) (month - 1)) }
+    ensures there { year < 2200 → option_map (λ d. d.number) result ≡ Some (year_start year + before (is_leap year) (month - 1)) }
     ensures past { 2200 ≤ year → result ≡ None }
-    ensures bound { IfSome result (λ d. d < 109573) }
 {
-    day_of(Date {
+    let number = day_of(Date {
         year,
         month,
         day: 1,
-    })
+    })?;
+    Some(Day { number })
 }
 
 // The first day of a year of the calendar.
@@ -95,7 +95,7 @@ fn new_year(year: u16) -> u32
     requires { (1900 ≤ year) × (year < 2200) }
     ensures { result ≡ year_start year }
 {
-    month_start(year, 1).unwrap()
+    month_start(year, 1).unwrap().number
 }
 
 // The days of a month.

@@ -1,5 +1,6 @@
 // From one active period to the next, by arithmetic.
-ghost use Rattle.std.specs.Prelude.{◌≡◌, ℕ, ◌+◌, ◌%◌, ◌<◌, ◌≤◌, false, IfSome, ◌==◌};
+ghost use Rattle.std.specs.Prelude.{◌≡◌, ℕ, ◌+◌, ◌%◌, ◌<◌, ◌≤◌, false, ◌==◌};
+ghost use Rattle.std.specs.Option.{option_map};
 ghost use Rattle.calendar.specs.Dates.{month_of};
 ghost use Rattle.calendar.specs.Weekdays.{weekday_number};
 ghost use Rattle.recurrence.specs.declared.parts.Frequency.TheVariants.{Monthly};
@@ -8,6 +9,7 @@ ghost use Rattle.pattern.specs.Openings.{OpensIf, least, most};
 ghost use Rattle.pattern.specs.First.{First};
 
 use crate::dated::{Dated, month_start};
+use crate::day::Day;
 use crate::period::period_of;
 use crate::started::Started;
 use calendar::days::LAST_DAY;
@@ -31,33 +33,34 @@ fn stride(here: u32, rest: u32, interval: u32) -> u32
 
 // The first day of a month, by its number: twelve for each year, and one for each month.
 #[tactic(auto, using(crate::proofs::Periods::month_opens))]
-fn month_opening(number: u32) -> Option<u32>
+fn month_opening(number: u32) -> Option<Day>
     requires { (22801 ≤ number) × (number ≤ 28000) }
-    ensures opens { (w : ℕ) → OpensIf Monthly w number result }
-    ensures bound { IfSome result (λ d. d < 109573) }
+    ensures { (w : ℕ) → OpensIf Monthly w number (option_map (λ d. d.number) result) }
 {
     month_start(((number - 1) / 12) as u16, ((number - 1) % 12 + 1) as u8)
 }
 
 // The day after a day's month.
-pub(crate) fn month_end(day: u32) -> u32
-    requires { day < 109573 }
-    ensures range { (day < result) × (result ≤ 109573) }
-    ensures same { (k : ℕ) → day ≤ k → k < result → month_of k ≡ month_of day }
+pub(crate) fn month_end(day: Day) -> u32
+    ensures range { (day.number < result) × (result ≤ 109573) }
+    ensures same { (k : ℕ) → day.number ≤ k → k < result → month_of k ≡ month_of day.number }
 {
     let date = Dated::new(day).date;
-    month_opening(12 * date.year as u32 + date.month as u32 + 1).unwrap_or(LAST_DAY + 1)
+    month_opening(12 * date.year as u32 + date.month as u32 + 1).map_or(
+        LAST_DAY + 1,
+        |first| first.number,
+    )
 }
 
-// The first day of a period, or none or a day past the calendar.
-#[tactic(auto, using(crate::proofs::Periods::year_opens))]
-fn opening_of(pattern: &Pattern, number: u32) -> Option<u32>
+// The first day of a period, or none past the calendar.
+#[tactic(auto, using(crate::proofs::Periods::day_opens, crate::proofs::Periods::week_opens, crate::proofs::Periods::year_opens))]
+fn opening_of(pattern: &Pattern, number: u32) -> Option<Day>
     requires { (least pattern.now.frequency ≤ number) × (number ≤ most pattern.now.frequency) }
-    ensures { OpensIf pattern.now.frequency (weekday_number pattern.now.week_start) number result }
+    ensures { OpensIf pattern.now.frequency (weekday_number pattern.now.week_start) number (option_map (λ d. d.number) result) }
 {
     match pattern.frequency {
-        Frequency::Daily => Some(number),
-        Frequency::Weekly => Some(7 * number + u32::from(u8::from(pattern.week_start)) - 7),
+        Frequency::Daily => Day::new(number),
+        Frequency::Weekly => Day::new(7 * number + u32::from(u8::from(pattern.week_start)) - 7),
         Frequency::Monthly => month_opening(number),
         Frequency::Yearly => month_start(number as u16, 1),
     }
@@ -66,16 +69,14 @@ fn opening_of(pattern: &Pattern, number: u32) -> Option<u32>
 impl Started<'_> {
     // The first day from `day` on that lies in an active period.
     #[tactic(auto, using(crate::proofs::Periods::floor, crate::proofs::Periods::ceiling, crate::proofs::Ahead::most_least))]
-    pub(crate) fn next_active(self, day: u32) -> Option<u32>
-        requires { day < 109573 }
-        ensures { First (active self.entry.pattern.now self.entry.start) day 109573 result }
+    pub(crate) fn next_active(self, day: Day) -> Option<Day>
+        ensures { First (active self.entry.pattern.now self.entry.start.number) day.number 109573 (option_map (λ d. d.number) result) }
     {
         let here = period_of(self.pattern, day);
         let next = stride(here, self.phase, self.pattern.interval);
         if next == here {
             return Some(day);
         }
-        let found = opening_of(self.pattern, next)?;
-        (found <= LAST_DAY).then_some(found)
+        opening_of(self.pattern, next)
     }
 }

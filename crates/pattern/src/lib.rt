@@ -2,6 +2,7 @@
 #![tactic(auto)]
 
 mod dated;
+mod day;
 mod entry;
 mod facts;
 mod jumps;

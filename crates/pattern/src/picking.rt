@@ -5,6 +5,7 @@ ghost use Rattle.recurrence.specs.Entries.{given};
 ghost use Rattle.pattern.specs.Picks.{in_month, facts, listed, implied, picked};
 
 use crate::dated::Dated;
+use crate::day::Day;
 use crate::entry::allowed;
 use crate::facts::Facts;
 use crate::started::Started;
@@ -30,13 +31,13 @@ fn is_listed(pattern: &Pattern, facts: &Facts) -> bool
 }
 
 impl Started<'_> {
-    fn is_implied(self, day: u32, seen: &Facts) -> bool
-        requires { (day < 109573) × (seen.now ≡ facts (in_month self.pattern.now.frequency (given self.pattern.now.months)) day) }
-        ensures { result ≡ implied self.entry.pattern.now.frequency (given self.entry.pattern.now.months) self.entry.start day }
+    fn is_implied(self, day: Day, seen: &Facts) -> bool
+        requires { seen.now ≡ facts (in_month self.pattern.now.frequency (given self.pattern.now.months)) day.number }
+        ensures { result ≡ implied self.entry.pattern.now.frequency (given self.entry.pattern.now.months) self.entry.start.number day.number }
     {
         match self.pattern.frequency {
             Frequency::Daily => true,
-            Frequency::Weekly => day % 7 == self.start % 7,
+            Frequency::Weekly => day.number % 7 == self.start.number % 7,
             Frequency::Monthly => seen.day == Dated::new(self.start).date.day,
             Frequency::Yearly => {
                 let first = Dated::new(self.start).date;
@@ -46,16 +47,15 @@ impl Started<'_> {
         }
     }
 
-    pub(crate) fn facts_of(self, day: u32) -> Facts
-        requires { day < 109573 }
-        ensures { result ≡ facts (in_month self.entry.pattern.now.frequency (given self.entry.pattern.now.months)) day }
+    pub(crate) fn facts_of(self, day: Day) -> Facts
+        ensures { result ≡ facts (in_month self.entry.pattern.now.frequency (given self.entry.pattern.now.months)) day.number }
     {
         Dated::new(day).facts(in_month(self.pattern))
     }
 
     // No day of the month is picked.
     pub(crate) fn month_shut(self, seen: &Facts) -> bool
-        ensures { result ≡ true → (k : ℕ) → month_of k ≡ seen.now.month → picked self.entry.pattern.now self.entry.start k ≡ false }
+        ensures { result ≡ true → (k : ℕ) → month_of k ≡ seen.now.month → picked self.entry.pattern.now self.entry.start.number k ≡ false }
     {
         if !allowed(&self.pattern.months, seen) {
             return true;
@@ -73,9 +73,9 @@ impl Started<'_> {
     }
 
     // A day with these facts is picked, if its period is active.
-    pub(crate) fn is_picked(self, day: u32, seen: &Facts) -> bool
-        requires { (day < 109573) × (seen.now ≡ facts (in_month self.pattern.now.frequency (given self.pattern.now.months)) day) }
-        ensures { result ≡ picked self.entry.pattern.now self.entry.start day }
+    pub(crate) fn is_picked(self, day: Day, seen: &Facts) -> bool
+        requires { seen.now ≡ facts (in_month self.pattern.now.frequency (given self.pattern.now.months)) day.number }
+        ensures { result ≡ picked self.entry.pattern.now self.entry.start.number day.number }
     {
         is_listed(self.pattern, seen)
             && (!self.pattern.month_days.is_empty()

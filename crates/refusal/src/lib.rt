@@ -45,12 +45,10 @@ impl Refusal {
     {
         self as u8
     }
-}
 
-// What is wrong, as a sentence for a person.
-impl fmt::Display for Refusal {
-    fn fmt<W: fmt::Write>(&self, f: &mut fmt::Formatter<W>) -> fmt::Result {
-        f.write_str(match *self {
+    // What is wrong, as a sentence for a person.
+    pub fn sentence(self) -> &'static str {
+        match self {
             Refusal::Malformed => "the text has not the form that is asked for",
             Refusal::OutOfBounds => "a value is out of bounds",
             Refusal::BadPart =>
@@ -65,6 +63,12 @@ impl fmt::Display for Refusal {
             Refusal::BadWindow => "the window ends before it begins, or past the last day",
             Refusal::EmptySource => "the series has no day",
             Refusal::ShortUndoLog => "the undo log has fewer than 16 places",
-        })
+        }
+    }
+}
+
+impl fmt::Display for Refusal {
+    fn fmt<W: fmt::Write>(&self, f: &mut fmt::Formatter<W>) -> fmt::Result {
+        f.write_str(self.sentence())
     }
 }

@@ -9,3 +9,4 @@ pub mod Known
 pub mod Cuts
 pub mod SpansLemmas
 pub mod Tails
+pub mod Listing

@@ -3,6 +3,7 @@
 
 mod again;
 mod choice;
+mod chosen;
 pub mod known;
 mod listing;
 mod making;

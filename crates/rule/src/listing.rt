@@ -8,6 +8,7 @@ ghost use Rattle.rule.specs.Refused.{count_bounds, among};
 use crate::choice::Choice;
 use pattern::scan::next_picked;
 
+// The bound of an end stands at each function: a type for it would be opened at every comparison with a day.
 impl Choice {
     // The first chosen day from `from` on, before `end`.
     #[tactic(auto, using(crate::proofs::Firsts::the_day, crate::proofs::Firsts::no_day))]
@@ -16,13 +17,7 @@ impl Choice {
         ensures { First (chooses self.now.pattern self.now.start) from end result }
     {
         match &self.pattern {
-            None => {
-                if from <= self.start && self.start < end {
-                    Some(self.start)
-                } else {
-                    None
-                }
-            }
+            None => (from <= self.start && self.start < end).then_some(self.start),
             Some(p) => next_picked(p, self.start, from, end),
         }
     }
@@ -35,35 +30,26 @@ impl Choice {
     }
 
     // How many days are chosen from `from` on, before `end`.
-    #[tactic(auto, using(crate::proofs::Settling::next_in, crate::specs::SpansLemmas::empty))]
     pub(crate) fn count_days(&self, from: u32, end: u32) -> u32
         requires { end ≤ 109573 }
         ensures { result ≡ length (span (chooses self.now.pattern self.now.start) from end) }
     {
-        // from one found day to the next: no index is counted
-        let mut n = 0;
-        let mut day = from;
-        while let Some(found) = self.next_day(day, end) {
-            n += 1;
-            day = found + 1;
-        }
-        n
+        self.days_from(from, end).count() as u32
     }
 
     // Where the first `count` days from the start on, before `stop`, end.
-    #[tactic(auto, using(crate::proofs::Settling::settle_out))]
+    #[tactic(auto, using(crate::proofs::Settling::settled_none))]
     pub(crate) fn settle(&self, stop: u32, count: u32) -> u32
         requires { stop ≤ 109573 }
         ensures low { result ≤ stop }
         ensures value { take count (span (chooses self.now.pattern self.now.start) self.now.start stop) ≡ span (chooses self.now.pattern self.now.start) self.now.start result }
     {
-        let mut day = self.start;
-        for _ in 0..count {
-            let Some(found) = self.next_day(day, stop) else {
-                return stop;
-            };
-            day = found + 1;
+        if count == 0 {
+            return self.start.min(stop);
         }
-        day.min(stop)
+        let Some(last) = self.days_from(self.start, stop).nth(count as usize - 1) else {
+            return stop;
+        };
+        last + 1
     }
 }

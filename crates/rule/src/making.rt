@@ -45,20 +45,17 @@ fn in_bounds(start: u32, recurrence: &Option<Recurrence>) -> bool
     ensures { result ≡ in_bounds start recurrence.now }
 {
     start <= LAST_DAY
-        && match recurrence {
-            None => true,
-            Some(r) => r.pattern.fits() && count_fits(r.count),
-        }
+        && recurrence
+            .as_ref()
+            .is_none_or(|r| r.pattern.fits() && count_fits(r.count))
 }
 
 // The parts may not stand together, or two ends are given.
 fn conflicting(recurrence: &Option<Recurrence>) -> bool
     ensures { result ≡ conflict recurrence.now }
 {
-    match recurrence {
-        None => false,
-        Some(r) => !r.pattern.suits() || r.count.is_some() && r.until.is_some(),
-    }
+    recurrence.as_ref().is_some_and(|r| !r.pattern.suits()
+        || r.count.is_some() && r.until.is_some())
 }
 
 impl Choice {
@@ -77,10 +74,7 @@ impl Choice {
         ensures settled { days_of self.now.pattern self.now.start until count ≡ span (chooses self.now.pattern self.now.start) self.now.start result }
     {
         let stop = stop_of(until);
-        match count {
-            None => stop,
-            Some(n) => self.settle(stop, n),
-        }
+        count.map_or(stop, |n| self.settle(stop, n))
     }
 }
 

@@ -80,6 +80,7 @@ pub(crate) fn put_list<T: Written>(page: &mut Page, name: &[u8], list: &[T]) -> 
     ensures stays { Stays page.old page.new }
     ensures cases { MatchResult result (λ _. Puts (list_text name.now T.Written.text list.now) page.old page.new) (λ e. Breaks (list_text name.now T.Written.text list.now) page.old e) }
 {
+    // not put(b""): the loop's facts would begin at the page that it leaves, and the promise at the call's
     if page.len > page.octets.len() {
         return Err(Refusal::PageFull);
     }

@@ -1,4 +1,5 @@
 // A recurrence on a page.
+// The page is what is written on, the recurrence and the clock what is told: no one value of the three.
 ghost use Rattle.std.specs.Prelude.{◌≡◌, MatchResult};
 ghost use Rattle.page.specs.Pages.{Stays, Puts, Breaks, Lacks};
 ghost use Rattle.rule_lines.specs.Writing.{frequency_text, interval_text, week_start_text, count_text, until_text, period_text, end_text, lists_text, recurrence_text, ReadsBack, SameDays};

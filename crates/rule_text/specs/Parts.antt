@@ -3,7 +3,7 @@ use Rattle.std.specs.Prelude.{ℕ, List, Some, None, Ok, Err, Option, Result}
 use Rattle.calendar.specs.declared.starts.Moment.{Moment}
 use Rattle.calendar.specs.declared.weekdays.Weekday.TheVariants.{Monday}
 use Rattle.refusal.specs.declared.Refusal.{Refusal}
-use Rattle.refusal.specs.declared.Refusal.TheVariants.{Malformed, BadPart}
+use Rattle.refusal.specs.declared.Refusal.TheVariants.{Malformed, BadPart, OutOfBounds}
 use Rattle.notation.specs.Dates.{moment_named}
 use Rattle.notation.specs.Digits.{capped}
 use Rattle.notation.specs.Fields.{cut_at}
@@ -18,8 +18,9 @@ use Rattle.rule_text.specs.Words.{frequency_named, weekday_named, part_named}
 
 -- a moment by its form; one that there is not is refused later
 abbrev pub limited : Result Moment Refusal → Option (Result Moment Refusal)
+limited (Ok m) = Some (Ok m)
 limited (Err Malformed) = None
-limited r = Some r
+limited (Err e) = Some (Err OutOfBounds)
 
 abbrev pub until_named : List ℕ → Option (Result Moment Refusal)
 until_named xs = limited (moment_named xs)

@@ -1,4 +1,5 @@
 // The fields of a text that a character parts, one after the other.
+// A `let .. else` at each mark that parts the text.
 ghost use Rattle.std.specs.Prelude.{◌≡◌};
 ghost use Rattle.std.specs.Iterator.{YieldsFirstRef, item_count};
 ghost use Rattle.rule_text.specs.Fields.{fields_left};

@@ -1,6 +1,6 @@
 // Reading one part of a rule.
-ghost use Rattle.std.specs.Prelude.{◌≡◌, MatchResult, IfSome, IfErr, Ok, Err};
-ghost use Rattle.refusal.specs.declared.Refusal.TheVariants.{OutOfBounds};
+// A `let .. else` at each mark that parts the text.
+ghost use Rattle.std.specs.Prelude.{◌≡◌, MatchResult, Ok, Err};
 ghost use Rattle.rule_text.specs.Parts.{until_named, once, part_read};
 
 use crate::lists::read_list;
@@ -16,12 +16,12 @@ use refusal::Refusal;
 
 // A text that has a moment's form; whether there is such a moment is asked when all parts are read.
 fn until_named(octets: &[u8]) -> Option<Result<Moment, Refusal>>
-    ensures value { result ≡ until_named octets.now }
-    ensures refused { IfSome result (λ m. IfErr m (λ e. e ≡ OutOfBounds)) }
+    ensures { result ≡ until_named octets.now }
 {
     match read_moment(octets) {
         Err(Refusal::Malformed) => None,
-        moment => Some(moment),
+        Err(_) => Some(Err(Refusal::OutOfBounds)),
+        Ok(moment) => Some(Ok(moment)),
     }
 }
 

@@ -3,7 +3,7 @@ use Rattle.std.proofs.Common.{◌≡◌, ℕ, zero, suc, ◌+◌, ◌<◌, ◌�
 use Rattle.std.proofs.lemmas.Bool.{eq-eqb, ne_eqb}
 use Rattle.series.specs.declared.changes.Override.{Override}
 use Rattle.std.specs.Result.{result_ok}
-use Rattle.bounded.specs.Climbing.{Climbs, climbs_first}
+use Rattle.bounded.specs.Climbing.{Climbs, climbs_first, climb_from, climb_rises}
 use Rattle.lookup.specs.Places.{Present, Absent}
 use Rattle.series.specs.Marks.{plain, mark_of, mark_on, change_fits, overrides_fit, Place}
 
@@ -11,22 +11,9 @@ use Rattle.series.specs.Marks.{plain, mark_of, mark_on, change_fits, overrides_f
 pub fits : (n : ℕ) (o : Override) (os : List Override) → overrides_fit n (o ∷ os) ≡ true → Climbs (λ (o : Override). o.day) (λ o. change_fits o.change) n o os
 fits n o os h = climbs_first (λ (o : Override). o.day) (λ o. change_fits o.change) n o os h
 
--- none has a day below the least
-pub fit_from : (n : ℕ) (os : List Override) → overrides_fit n os ≡ true → (j : ℕ) (o : Override) → j < length os → n ≤ (get_or os j o).day
-fit_from n [] h j o l = absurd (omega arith)
-fit_from n (x ∷ xs) h zero o l = (fits n x xs h).low
-fit_from n (x ∷ xs) h (suc j) o l =
-    let f = fits n x xs h in
-    let k : x.day + 1 ≤ (get_or xs j o).day = fit_from (x.day + 1) xs f.rest j o (omega arith) in
-    let low = f.low in
-    omega arith
-
+-- each has a later day than those before it
 pub fit_rises : (n : ℕ) (os : List Override) → overrides_fit n os ≡ true → (i j : ℕ) (o : Override) → i < j → j < length os → (get_or os i o).day < (get_or os j o).day
-fit_rises n [] h i j o p q = absurd (omega arith)
-fit_rises n (x ∷ xs) h i zero o p q = absurd (omega arith)
-fit_rises n (x ∷ xs) h zero (suc j) o p q =
-    let k : x.day + 1 ≤ (get_or xs j o).day = fit_from (x.day + 1) xs (fits n x xs h).rest j o (omega arith) in omega arith
-fit_rises n (x ∷ xs) h (suc i) (suc j) o p q = fit_rises (x.day + 1) xs (fits n x xs h).rest i j o (omega arith) (omega arith)
+fit_rises n os h i j o p q = climb_rises (λ (o : Override). o.day) (λ o. change_fits o.change) n os h i j o p q
 
 -- the override at a place is what the map says of its day
 pub mark_is_at : (n : ℕ) (os : List Override) → overrides_fit n os ≡ true → (i d : ℕ) (o : Override) → i < length os → (get_or os i o).day ≡ d → mark_of (get_or os i o).change ≡ mark_on os d
@@ -34,7 +21,7 @@ mark_is_at n [] h i d o l e = absurd (omega arith)
 mark_is_at n (x ∷ xs) h zero d o l e = rw (eq-eqb x.day d e)
 mark_is_at n (x ∷ xs) h (suc i) d o l e =
     let f = (fits n x xs h).rest in
-    let k : x.day + 1 ≤ (get_or xs i o).day = fit_from (x.day + 1) xs f i o (omega arith) in
+    let k : x.day + 1 ≤ (get_or xs i o).day = climb_from (λ (o : Override). o.day) (λ o. change_fits o.change) (x.day + 1) xs f i o (omega arith) in
     rw (ne_eqb x.day d (omega arith)) (mark_is_at (x.day + 1) xs f i d o (omega arith) e)
 
 -- and where none has the day, the day is plain

@@ -60,7 +60,7 @@ abbrev pub live : Occurrence → Bool
 live o = live_by o.mark
 
 abbrev pub overrides_of : Overrides → List Override
-overrides_of m = held m.items
+overrides_of m = held m.items.list
 
 module _ {S : Type 0} (days : S → List ℕ) where
   -- a source with what its days carry

@@ -1,13 +1,14 @@
 // Equality and order of labels: octet by octet, a proper beginning first.
 // By hand, since a derive would read what stands past the last octet.
-ghost use Rattle.std.specs.Prelude.{◌==◌};
+ghost use Rattle.std.specs.Prelude.{◌≡◌, ◌==◌};
 ghost use Rattle.std.proofs.Common.{rules};
 ghost use Rattle.std.specs.Cmp.{partial_order_from_own_ties};
 ghost use Rattle.std.specs.Cmp.Lexicographic.{slice_cmp};
 ghost use Rattle.std.specs.Cmp.Rules.{comparing};
-ghost use Rattle.std.specs.Ordering.{nat_cmp, on, as_partial_cmp};
+ghost use Rattle.std.specs.Ordering.{MatchOrdering, nat_cmp, on, as_partial_cmp};
 ghost use Rattle.std.specs.Str.{bytes_eq};
 ghost use Rattle.bounded.specs.Held.{held};
+ghost use Rattle.series.specs.Order.{Ahead};
 
 use crate::alphabets::Alphabet;
 use crate::labels::Label;
@@ -36,7 +37,11 @@ impl<A: Alphabet, const N: usize> Ord for Label<A, N> {
 
     ghost matches_eq = { Prim.search (comparing, rules) };
 
-    fn cmp(&self, other: &Label<A, N>) -> Ordering {
+    #[tactic(auto, using(crate::proofs::Orders::ranks_at))]
+    fn cmp(&self, other: &Label<A, N>) -> Ordering
+        ensures value { result ≡ slice_cmp nat_cmp (held self.now.octets) (held other.now.octets) }
+        ensures ranks { MatchOrdering result (Ahead (held self.now.octets) (held other.now.octets)) (held self.now.octets ≡ held other.now.octets) (Ahead (held other.now.octets) (held self.now.octets)) }
+    {
         self.as_bytes().cmp(&other.as_bytes())
     }
 }

@@ -14,6 +14,7 @@ pub struct Label<A: Alphabet, const N: usize> {
     ghost valid: { bounded N A.holds (held octets) ≡ true },
 }
 
+// By hand: beside a ghost field, `derive` is refused for a struct that is generic in a type (`derive-over-ghost-field`).
 impl<A: Alphabet, const N: usize> Clone for Label<A, N> {
     ghost is_clone = { λ a b. b ≡ a };
 

@@ -9,6 +9,7 @@ pub mod label_octets;
 pub mod label_orders;
 pub mod labels;
 pub mod minutes;
+pub mod override_days;
 pub mod override_items;
 pub mod overrides;
 pub mod records;

@@ -1,54 +1,23 @@
 // Making an override map, and what it says of a day.
-ghost use Rattle.std.specs.Prelude.{◌≡◌, ℕ, ◌<◌, ◌≤◌, true, false, List, [], length, MatchResult};
+ghost use Rattle.std.specs.Prelude.{◌≡◌, true, false, [], MatchResult};
 ghost use Rattle.std.specs.Option.{option_map};
 ghost use Rattle.refusal.specs.Numbers.{number};
-ghost use Rattle.series.specs.Marks.{change_fits, overrides_fit, map_holdable, mark_from, mark_on, Place};
+ghost use Rattle.series.specs.Marks.{map_holdable, mark_from, mark_on, Place};
 ghost use Rattle.series.specs.Plans.{overrides_of};
-ghost use Rattle.std.proofs.Common.{rules};
 
 use crate::changes::{Change, Override};
 use crate::overrides::Overrides;
-use bounded::dated::{Dated, climb};
-use bounded::lists::Bounded;
-use calendar::starts::STARTS_END;
-use lookup::{Keyed, find};
+use bounded::climbing::Climbing;
+use lookup::find;
 use refusal::Refusal;
-use std::cmp::Ordering;
-
-impl Keyed for Override {
-    type Key = u32;
-
-    ghost before = { λ a b. a.day < b.day };
-
-    ghost less = { λ a k. a.day < k };
-
-    ghost same = { λ a k. a.day ≡ k };
-
-    ghost more = { λ a k. k < a.day };
-
-    ghost down = { Prim.search rules };
-
-    ghost up = { Prim.search rules };
-
-    ghost below = { Prim.search rules };
-
-    ghost above = { Prim.search rules };
-
-    fn order(&self, key: &u32) -> Ordering {
-        self.day.cmp(key)
-    }
-}
 
 impl Overrides {
     // An override map, or a refusal where there are too many, a day past the last, one not after the one before it, or a start past the last.
     pub fn new(items: &[Override]) -> Result<Overrides, Refusal>
         ensures { MatchResult result (λ m. (map_holdable items.now ≡ true) × (overrides_of m ≡ items.now)) (λ e. (map_holdable items.now ≡ false) × (number e ≡ 8)) }
     {
-        let held = Bounded::new(items, BLANK).ok_or(Refusal::OutOfBounds)?;
-        if !climb(items) {
-            return Err(Refusal::OutOfBounds);
-        }
-        Ok(Overrides { items: held })
+        let items = Climbing::new(items, BLANK).ok_or(Refusal::OutOfBounds)?;
+        Ok(Overrides { items })
     }
 
     // No override.
@@ -56,7 +25,7 @@ impl Overrides {
         ensures { overrides_of result ≡ [] }
     {
         Overrides {
-            items: Bounded::empty(BLANK),
+            items: Climbing::empty(BLANK),
         }
     }
 
@@ -79,23 +48,6 @@ impl Overrides {
     {
         let place = self.place(day)?;
         Some(&self.as_slice()[place].change)
-    }
-}
-
-impl Dated for Override {
-    ghost day_of = { λ o. o.day };
-
-    ghost carries = { λ o. change_fits o.change };
-
-    fn day(&self) -> u32 {
-        self.day
-    }
-
-    fn fits(&self) -> bool {
-        match &self.change {
-            Change::Cancelled => true,
-            Change::Altered(alteration) => alteration.start < STARTS_END,
-        }
     }
 }
 

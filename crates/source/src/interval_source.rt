@@ -87,11 +87,7 @@ impl Source for Interval {
         ensures same { (result.count ≡ 0 → result.start ≡ self.now.start) × (result.step ≡ self.now.step) }
     {
         let at = self.places(day);
-        let start = if at.low < at.high {
-            self.start + at.low * self.step
-        } else {
-            self.start
-        };
+        let start = self.first_at(day).unwrap_or(self.start);
         Interval {
             start,
             step: self.step,

@@ -42,10 +42,7 @@ fn a_length_past_the_end(rt: HostRuntime) {
 #[test]
 fn numbers(rt: HostRuntime) {
     let mut octets = [b'.'; 20];
-    let mut page = Page {
-        octets: &mut octets,
-        len: 0,
-    };
+    let mut page = Page::new(&mut octets);
     assert_eq!(rt; page.put_decimal(0), Ok(()));
     assert_eq!(rt; page.put_decimal(1440), Ok(()));
     assert_eq!(rt; page.put_date(DAY), Ok(()));
@@ -58,10 +55,7 @@ fn numbers(rt: HostRuntime) {
 #[test]
 fn a_line_that_just_fits(rt: HostRuntime) {
     let mut octets = [b'.'; 23];
-    let mut page = Page {
-        octets: &mut octets,
-        len: 0,
-    };
+    let mut page = Page::new(&mut octets);
     assert_eq!(rt;
         page.put_line(DAY, 1110, 45, b"e", b"Even"),
         Err(Refusal::PageFull)
@@ -75,10 +69,7 @@ fn a_line_that_just_fits(rt: HostRuntime) {
 #[test]
 fn a_summary(rt: HostRuntime) {
     let mut octets = [b'.'; 42];
-    let mut page = Page {
-        octets: &mut octets,
-        len: 0,
-    };
+    let mut page = Page::new(&mut octets);
     assert_eq!(rt; page.put_summary(1, DAY, DAY), Ok(()));
     assert_eq!(rt; octets, *b"printed 1 lines from 20240107 to 20240107\n");
 }

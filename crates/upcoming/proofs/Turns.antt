@@ -1,10 +1,13 @@
 -- What the best so far is once one more override has been looked at.
-use Rattle.std.proofs.Common.{ℕ, ◌⊎◌, List, [], ◌∷◌, ◌++◌, Some, None, Option, subst, inl, inr, arith}
+use Rattle.std.proofs.Common.{◌≡◌, ℕ, ◌⊎◌, Bool, true, false, List, [], ◌∷◌, ◌++◌, Some, None, Option, MatchOption, sym, subst, inl, inr, arith}
 use Rattle.series.specs.declared.changes.Override.{Override}
 use Rattle.series.specs.Members.{Mem}
 use Rattle.upcoming.specs.declared.keys.Key.{Key}
 use Rattle.upcoming.specs.Kinds.{MovesTo, Moved, Better, BetterOf}
 use Rattle.upcoming.specs.Least.{Next}
+use Rattle.std.specs.Bool.{then_some}
+use Rattle.source.specs.Days.{among}
+use Rattle.upcoming.proofs.Finds.{among_mem, among_not}
 use Rattle.upcoming.proofs.Joins.{alike, stays, takes}
 use Rattle.upcoming.proofs.Moving.{one_place, moves_more, moves_less}
 
@@ -44,3 +47,11 @@ module _ (s d end : ℕ) (Q : ℕ → ℕ → Type 0) (days : List ℕ) where
     taken k b m =
         joined (Some k) (takes s d end (Seen Q days os) One best k h (m, b.moves) b.reached b.within b.first
         (λ x y n. let e = one_place o k.start k.day x y b.moves n.1 in let u = e.0 in let v = e.1 in omega arith))
+
+    -- the key is kept where its day is one of the days
+    pub turned : (P : Key → Bool → Type 0) → ((k : Key) (b : Bool) → P k b → b ≡ among k.day days) → (n r : Option Key) → BetterOf o s d end best n
+        → MatchOption n (r ≡ None) (λ k. (b : Bool) × P k b × (r ≡ then_some b k))
+        → MatchOption r (Next (Seen Q days (os ++ o ∷ [])) s d end best) (λ k. Next (Seen Q days (os ++ o ∷ [])) s d end (Some k))
+    turned P is None r m e = rw e (passed m)
+    turned P is (Some k) r m (true, t, e) = rw e (taken k m (among_mem k.day days (sym (is k true t))))
+    turned P is (Some k) r m (false, t, e) = rw e (missing k m (among_not k.day days (sym (is k false t))))

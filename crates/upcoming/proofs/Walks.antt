@@ -1,12 +1,13 @@
 -- The first plain day, while the days of a source are walked over.
-use Rattle.std.proofs.Common.{◌≡◌, ℕ, ◌<◌, ◌≤◌, List, [], ◌∷◌, sym, refl, ap, ◌∙◌, inl, inr, ⊎_elim, arith}
+use Rattle.std.proofs.Common.{◌≡◌, ℕ, zero, suc, ◌<◌, ◌≤◌, length, Some, None, Option, MatchOption, subst, List, [], ◌∷◌, sym, refl, ap, ◌∙◌, inl, inr, ⊎_elim, arith}
 use Rattle.std.proofs.lemmas.Bool.Decides.{leb_tells}
+use Rattle.std.specs.List.{AllWithin, HoldsAt}
 use Rattle.source.specs.Days.{Ascending, since}
 use Rattle.source.specs.Ascents.{kept_ascends}
 use Rattle.series.specs.Marks.{plain}
 use Rattle.series.specs.Members.{Mem}
 use Rattle.series.specs.Plans.{Plan}
-use Rattle.upcoming.specs.Kinds.{FirstPlain}
+use Rattle.upcoming.specs.Kinds.{FirstPlain, PlainFrom}
 use Rattle.upcoming.proofs.Finds.{all_mem}
 
 -- the days that are left are the plan's from d on, less some that are not plain
@@ -60,3 +61,21 @@ left_first p d e xs q l =
       from = t.1;
       first = λ x m s h. elim (l.plains x m s h) [ inl i ↦ (let i' : x ≡ e = i in omega arith) | inr m ↦ (let z : e < x = all_mem (λ y. e < y) xs l.ascends.0 x m in omega arith) ];
     }
+
+-- the first that is plain, by its place
+pub left_found : (p : Plan) (d e i : ℕ) (xs : List ℕ) → Left p d xs → p.marks e ≡ plain → i < length xs → HoldsAt (λ y. y ≡ e) xs i
+    → AllWithin (λ y. p.marks y ≡ plain → ⊥) xs 0 i → FirstPlain p d e
+left_found p d e i [] l q h a n = absurd (omega arith)
+left_found p d e zero (x ∷ xs) l q h a n = let s : x ≡ e = a x in left_first p d e xs q (subst (λ (y : ℕ). Left p d (y ∷ xs)) s l)
+left_found p d e (suc i) (x ∷ xs) l q h a n =
+    left_found p d e i xs (left_less p d x xs (n 0 x (omega arith) (omega arith)) l) q (omega arith) a (λ k y u v. n (suc k) y (omega arith) (omega arith))
+
+pub left_none : (p : Plan) (d : ℕ) (xs : List ℕ) → Left p d xs → AllWithin (λ y. p.marks y ≡ plain → ⊥) xs 0 (length xs) → PlainFrom p d None
+left_none p d [] l n = λ x m q h. l.plains x m q h
+left_none p d (y ∷ ys) l n = left_none p d ys (left_less p d y ys (n 0 y (omega arith) (omega arith)) l) (λ k x u v. n (suc k) x (omega arith) (omega arith))
+
+pub left_case : (p : Plan) (d : ℕ) (xs : List ℕ) (r : Option ℕ) → Left p d xs
+    → MatchOption r (AllWithin (λ y. p.marks y ≡ plain → ⊥) xs 0 (length xs)) (λ x. (p.marks x ≡ plain) × (i : ℕ) × (i < length xs) × HoldsAt (λ y. y ≡ x) xs i × AllWithin (λ y. p.marks y ≡ plain → ⊥) xs 0 i)
+    → PlainFrom p d r
+left_case p d xs None l m = left_none p d xs l m
+left_case p d xs (Some e) l m = left_found p d e m.1 xs l m.0 m.2 m.3 m.4

@@ -1,10 +1,12 @@
 -- The first plain day that a window reaches is its next plain occurrence.
-use Rattle.std.proofs.Common.{◌≡◌, ℕ, ◌+◌, ◌*◌, ◌<◌, ◌≤◌, None, arith}
+use Rattle.std.proofs.Common.{◌≡◌, ℕ, ◌+◌, ◌*◌, ◌<◌, ◌≤◌, None, nat_lt, ⊎_elim, arith}
+use Rattle.std.proofs.lemmas.Bool.{cases_lt, lt-ltb, le-ltb}
+use Rattle.std.specs.Bool.{then_some}
 use Rattle.std.specs.List.{AllByRecursion}
 use Rattle.calendar.specs.Starts.{start_of}
 use Rattle.series.specs.Plans.{Plan}
 use Rattle.upcoming.specs.Kinds.{Plain, FirstPlain, PlainFrom}
-use Rattle.upcoming.specs.Least.{rank, Least, NoneIn}
+use Rattle.upcoming.specs.Least.{rank, Least, Next, NoneIn}
 use Rattle.upcoming.proofs.Finds.{all_mem}
 
 module _ (p : Plan) (bounded : AllByRecursion (λ d. d ≤ 109572) p.days) (clock s d first : ℕ) (is : clock ≡ p.clock)
@@ -34,3 +36,12 @@ module _ (p : Plan) (bounded : AllByRecursion (λ d. d ≤ 109572) p.days) (cloc
         let q : z ≡ start_of w p.clock = h.starts in
         omega arith;
   }
+
+  -- the first plain day's key, where it lies before the end
+  pub window_plain : (end e n : ℕ) → FirstPlain p first e → rank s d ≤ rank (e * 1440 + clock) e → n ≡ e * 1440 + clock
+      → Next (Plain p) s d end (then_some (nat_lt n end) (record { start = n; day = e }))
+  window_plain end e n f r q =
+      ⊎_elim
+      (λ (l : e * 1440 + clock < end). rw (q, lt-ltb (e * 1440 + clock) end l) (least_plain end e f r l))
+      (λ (g : end ≤ e * 1440 + clock). rw (q, le-ltb (e * 1440 + clock) end g) (past_end end e f g))
+      (cases_lt (e * 1440 + clock) end)

@@ -3,6 +3,7 @@ ghost use Rattle.std.specs.Prelude.{◌≡◌, ℕ, ◌+◌, ◌*◌, ◌<◌, �
 ghost use Rattle.upcoming.specs.Least.{rank};
 
 use crate::keys::Key;
+use calendar::starts::DAY_MINUTES;
 
 // The first day whose own key is not before this one.
 pub(crate) fn first_day(clock: u16, from: Key) -> u32
@@ -12,8 +13,8 @@ pub(crate) fn first_day(clock: u16, from: Key) -> u32
     let Some(span) = from.start.checked_sub(clock as u32) else {
         return 0;
     };
-    let whole = span / 1440;
-    if span % 1440 > 0 || whole < from.day {
+    let whole = span / DAY_MINUTES;
+    if span % DAY_MINUTES > 0 || whole < from.day {
         return whole + 1;
     }
     whole

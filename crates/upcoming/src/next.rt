@@ -16,12 +16,12 @@ use source::sources::Source;
 pub fn next_in<S: Source>(series: &StoredSeries<S>, from: Key, end: u32) -> Option<Key>
     ensures { Next (Shows (plan_of S.Source.days series.now)) from.start from.day end result }
 {
+    let source = &series.repeats.source;
     let mut best = next_plain(series, from, end);
     for item in series.overrides.as_slice() {
-        if let Some(key) = better_of(item, from, end, best) {
-            if has_day(&series.repeats.source, key.day) {
-                best = Some(key);
-            }
+        let moved = better_of(item, from, end, best);
+        if let Some(key) = moved.filter(|key| has_day(source, key.day)) {
+            best = Some(key);
         }
     }
     best

@@ -15,12 +15,10 @@ use source::walks::days_from;
 pub(crate) fn first_plain<S: Source>(series: &StoredSeries<S>, day: u32) -> Option<u32>
     ensures { PlainFrom (plan_of S.Source.days series.now) day result }
 {
-    for found in days_from(&series.repeats.source, day) {
-        if series.overrides.change_on(found).is_none() {
-            return Some(found);
-        }
-    }
-    None
+    days_from(&series.repeats.source, day).find(|found| series
+        .overrides
+        .change_on(*found)
+        .is_none())
 }
 
 // The next occurrence without an override.
@@ -30,9 +28,5 @@ pub(crate) fn next_plain<S: Source>(series: &StoredSeries<S>, from: Key, end: u3
     let clock = series.repeats.clock.minutes();
     let day = first_plain(series, first_day(clock, from))?;
     let start = day * DAY_MINUTES + clock as u32;
-    if start < end {
-        Some(Key { start, day })
-    } else {
-        None
-    }
+    (start < end).then_some(Key { start, day })
 }

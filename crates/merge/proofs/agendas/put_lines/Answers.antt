@@ -1,6 +1,5 @@
-use Rattle.std.proofs.Common.{arith}
+use Rattle.std.proofs.Common.{◌≡◌, length, arith}
 use Rattle.std.proofs.lemmas.Result.{err_from_is_err_and}
-use Rattle.tournament.specs.Ranks.{node}
 use Rattle.merge.specs.Places.{named}
 use Rattle.merge.proofs.Standing.{near}
 use Rattle.merge.proofs.Written.{line_long, writes_none, prints_none, seated, shown, day_near, in_time, prints, none_fits, replays, writes_more}
@@ -10,52 +9,67 @@ pub returns-then-count-eq0-clause-cases : goal.returns-then-count-eq0-clause-cas
 returns-then-count-eq0-clause-cases g c =
     let days = g.St.Source.Source.days in
     let ps = g.St.Store.pairs c.args.store.now in
-    let e = c.count-count.ensures in
+    let e = c.count.ensures in
     prints_none days ps (near days g.met.St.Source.Source.bounded ps) (g.met.St.Store.ascending c.args.store.now) (omega arith) c.args.window c.requires.window c.args.page.now (omega arith) (omega arith)
 
-pub loop-nodes-init : goal.loop-nodes-init
-loop-nodes-init g c =
+pub loop-window-init : goal.loop-window-init
+loop-window-init g c =
     let days = g.St.Source.Source.days in
     let ps = g.St.Store.pairs c.args.store.now in
-    let e = c.count-count.ensures in
-    writes_none days ps (near days g.met.St.Source.Source.bounded ps) (g.met.St.Store.ascending c.args.store.now) (omega arith) c.args.window c.requires.window c.args.page.now (omega arith)
-    c.count-count.result c.seat.new.nodes c.play.new.tree (omega arith) e (omega arith) c.play.ensures.played c.seat.ensures c.play.ensures.leaves
+    let e = c.count.ensures in
+    let n : c.seat.new.tournament.count ≡ length ps = omega (arith, c.seat.ensures.count, c.requires.places) in
+    rw (c.play.ensures.count)
+    (writes_none days ps (near days g.met.St.Source.Source.bounded ps) (g.met.St.Store.ascending c.args.store.now) (omega arith) c.args.window c.requires.window c.args.page.now (omega arith)
+    c.seat.new.tournament.count c.seat.new.tournament.nodes.now c.play.new.self.nodes.now (omega (arith, n, e)) n (omega (arith, c.play.ensures.long, c.seat.new.tournament.room)) c.play.ensures.played (rw (← c.seat.ensures.count) at c.seat.ensures.stand) c.play.ensures.leaves)
 
 pub put_node-requires : goal.put_node-requires
-put_node-requires g c = (in_time c.loop-nodes.invariant c.loop-nodes-test.true, shown c.loop-nodes.invariant c.loop-nodes-test.true)
+put_node-requires g c =
+    let w = c.loop-window.invariant in
+    let is = c.best-top.ensures in
+    let h = rw (c.best.ensures, ← is) at c.loop-window-test.true in
+    (in_time w is h, shown w is h)
 
 pub returns-in_err-put_node-clause-cases : goal.returns-in_err-put_node-clause-cases
 returns-in_err-put_node-clause-cases g c =
     let r = err_from_is_err_and c.from_residual.result c.from_residual.ensures.1 in
     let f = c.in_err-put_node.ensures.cases in
-    rw (r.1, r.2) (f.number, none_fits c.loop-nodes.invariant c.loop-nodes-test.true c.put_node.new.page c.in_err-put_node.field-0.0 f)
-
-pub overflow_add-leaf : goal.overflow_add-leaf
-overflow_add-leaf g c = let s = seated c.loop-nodes.invariant in omega arith
+    let w = c.loop-window.invariant in
+    let is = c.best-top.ensures in
+    let h = rw (c.best.ensures, ← is) at c.loop-window-test.true in
+    rw (r.1, r.2) (f.number, none_fits w is h c.put_node.new.page c.in_err-put_node.field-0.0 f)
 
 pub overflow_add-next : goal.overflow_add-next
-overflow_add-next g c = let d = day_near c.loop-nodes.invariant c.loop-nodes-test.true in omega arith
+overflow_add-next g c =
+    let w = c.loop-window.invariant in
+    let is = c.best-top.ensures in
+    let h = rw (c.best.ensures, ← is) at c.loop-window-test.true in
+    let d = day_near w is h in omega arith
 
-pub offset_bounds-nodes-leaf : goal.offset_bounds-nodes-leaf
-offset_bounds-nodes-leaf g c = let s = seated c.loop-nodes.invariant in omega arith
-
-pub bounds-nodes-leaf : goal.bounds-nodes-leaf
-bounds-nodes-leaf g c = let s = seated c.loop-nodes.invariant in omega arith
+pub seat-requires-in-loop-window : goal.seat-requires-in-loop-window
+seat-requires-in-loop-window g c = seated c.loop-window.invariant c.best-top.ensures
 
 pub replay-requires : goal.replay-requires
-replay-requires g c = replays c.loop-nodes.invariant c.cursor.result
+replay-requires g c =
+    let s = c.seat-in-loop-window.ensures in
+    rw (s.count, s.nodes) (replays c.loop-window.invariant c.best-top.ensures c.cursor.result)
 
-pub loop-nodes-smaller : goal.loop-nodes-smaller
-loop-nodes-smaller g c =
+pub loop-window-smaller : goal.loop-window-smaller
+loop-window-smaller g c =
     let a = c.in_ok-put_node.ensures.cases in
-    let w = c.loop-nodes.invariant in
-    omega (arith, a.room, a.len, w.stays.long, line_long (named g.St.Source.Source.days (g.St.Store.pairs c.args.store.now) (node c.loop-nodes.nodes 1)))
+    let w = c.loop-window.invariant in
+    omega (arith, a.room, a.len, w.stays.long, line_long (named g.St.Source.Source.days (g.St.Store.pairs c.args.store.now) c.best-top.result))
 
-pub loop-nodes-preserved : goal.loop-nodes-preserved
-loop-nodes-preserved g c =
+pub loop-window-preserved : goal.loop-window-preserved
+loop-window-preserved g c =
     let a = c.in_ok-put_node.ensures in
-    writes_more c.loop-nodes.invariant c.loop-nodes-test.true c.cursor.result c.replay.new.tree c.put_node.new.page
-    c.cursor.ensures c.replay.ensures.leaves c.replay.ensures.played c.replay.ensures.long a.cases a.stays
+    let w = c.loop-window.invariant in
+    let is = c.best-top.ensures in
+    let h = rw (c.best.ensures, ← is) at c.loop-window-test.true in
+    let s = c.seat-in-loop-window.ensures in
+    let r = c.replay.ensures in
+    rw (r.count, s.count)
+    (writes_more w is h c.cursor.result c.replay.new.self.nodes.now c.put_node.new.page
+    c.cursor.ensures (rw (s.nodes, s.count) at r.leaves) (rw (s.count) at r.played) (rw (s.nodes) at r.long) a.cases a.stays)
 
 pub returns-clause-cases : goal.returns-clause-cases
-returns-clause-cases g c = prints c.loop-nodes.invariant c.loop-nodes-test.false
+returns-clause-cases g c = prints c.loop-window.invariant c.best.ensures c.loop-window-test.false

@@ -1,10 +1,10 @@
-use Rattle.std.proofs.Common.{◌≤◌, Option, sym, subst, arith}
+use Rattle.std.proofs.Common.{◌+◌, ◌*◌, ◌≤◌, Option, refl, sym, subst, arith}
 use Rattle.series.specs.Plans.{plan_of}
 use Rattle.upcoming.specs.declared.keys.Key.{Key}
 use Rattle.upcoming.specs.Kinds.{Plain}
 use Rattle.upcoming.specs.Least.{Next}
 use Rattle.upcoming.proofs.Finds.{all_mem}
-use Rattle.upcoming.proofs.Windows.{none_plain, past_end, least_plain}
+use Rattle.upcoming.proofs.Windows.{none_plain, window_plain}
 use Rattle.upcoming.proofs.plains.next_plain.Goals as goal
 
 pub returns-in_err-day : goal.returns-in_err-day
@@ -24,14 +24,9 @@ overflow_add-start g c =
     let b = c.minutes-clock.ensures.bound in
     omega arith
 
-pub returns-then-start-end : goal.returns-then-start-end
-returns-then-start-end g c =
+pub returns : goal.returns
+returns g c =
     let s = c.args.series.now in
     let f = c.in_ok-day.ensures in
     let e = c.in_ok-day.day in
-    least_plain (plan_of g.S.Source.days s) (g.met.S.Source.bounded s.repeats.source) c.minutes-clock.result c.args.from.start c.args.from.day c.first_day.result c.minutes-clock.ensures.value c.first_day.ensures.before c.args.end e f (c.first_day.ensures.from e f.from) c.if-start-end.true
-
-pub returns-else-start-end : goal.returns-else-start-end
-returns-else-start-end g c =
-    let s = c.args.series.now in
-    past_end (plan_of g.S.Source.days s) (g.met.S.Source.bounded s.repeats.source) c.minutes-clock.result c.args.from.start c.args.from.day c.first_day.result c.minutes-clock.ensures.value c.first_day.ensures.before c.args.end c.in_ok-day.day c.in_ok-day.ensures c.if-start-end.false
+    rw c.then_some.ensures (window_plain (plan_of g.S.Source.days s) (g.met.S.Source.bounded s.repeats.source) c.minutes-clock.result c.args.from.start c.args.from.day c.first_day.result c.minutes-clock.ensures.value c.first_day.ensures.before c.args.end e (e * 1440 + c.minutes-clock.result) f (c.first_day.ensures.from e f.from) refl)
