@@ -11,6 +11,7 @@ const MONTHS: [[u8; 12]; 2] = [
     [31, 29, 31, 30, 31, 30, 31, 31, 30, 31, 30, 31],
 ];
 
+// Bare numbers: a type for a month, or a year, would be opened at each comparison.
 pub(crate) fn length_in(leap: bool, month: u8) -> u8
     requires { (1 ≤ month) × (month ≤ 12) }
     ensures value { result ≡ month_length leap month }

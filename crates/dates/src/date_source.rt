@@ -20,7 +20,7 @@ impl DateList {
         Ok(DateList { days })
     }
 
-    // How many days lie before `day`.
+    // How many days lie before `day`: where it would stand, and not whether it is there, as the override map asks.
     fn place(&self, day: u32) -> usize
         ensures { Split self.now day result }
     {

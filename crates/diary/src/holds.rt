@@ -57,6 +57,7 @@ impl Drafts {
     pub(crate) fn reserved(&self) -> usize
         ensures { result ≡ all_reserved self.now.slots }
     {
+        // not flatten(), as above
         self.slots.iter().filter(|slot| reserves(slot)).count()
     }
 }

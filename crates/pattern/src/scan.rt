@@ -24,6 +24,7 @@ impl Started<'_> {
     }
 
     // The first picked day from `from` on, before `end`. Days of idle periods are passed at once.
+    // The end's bound is no type: it would be opened at each comparison with a day.
     #[tactic(auto, using(crate::proofs::Ahead::idle, crate::proofs::Ahead::left_out, crate::proofs::Ahead::taken_in))]
     fn seek(self, from: u32, end: u32) -> Option<u32>
         requires { end ≤ 109573 }

@@ -27,7 +27,7 @@ pub struct DayEntry {
 
 // The first `len` items are the entries, in the order given; there are none where the part is absent.
 // The items after them mean nothing, so that `==` is not derived. A plain value, unchecked: `fits` refuses a length
-// above 12.
+// above 12, which a bounded list could not have.
 #[derive(Clone, Copy)]
 pub struct Few<T> {
     pub items: [T; 12],

@@ -46,7 +46,7 @@ impl Refusal {
         self as u8
     }
 
-    // What is wrong, as a sentence for a person.
+    // What is wrong, as a sentence for a person. Beside the Display, which writes it: a text that cannot fail.
     pub fn sentence(self) -> &'static str {
         match self {
             Refusal::Malformed => "the text has not the form that is asked for",

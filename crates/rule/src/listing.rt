@@ -8,7 +8,7 @@ ghost use Rattle.rule.specs.Refused.{count_bounds, among};
 use crate::choice::Choice;
 use pattern::scan::next_picked;
 
-// The bound of an end stands at each function: a type for it would be opened at every comparison with a day.
+// Two numbers and no range: `from` moves and the end stays. The bound of an end stands at each function: a type for it would be opened at every comparison with a day.
 impl Choice {
     // The first chosen day from `from` on, before `end`.
     #[tactic(auto, using(crate::proofs::Firsts::the_day, crate::proofs::Firsts::no_day))]

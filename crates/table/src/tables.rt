@@ -5,6 +5,7 @@ ghost use Rattle.table.specs.Rows.{climbs};
 use store::pairs::Pair;
 
 // The limit stands beside the rows, since a vector may have more room than it was asked for.
+// Rows in order and no map: a store answers by place.
 #[derive(Drop)]
 pub struct Table<S> {
     pub(crate) rows: Vec<Pair<S>>,

@@ -10,6 +10,7 @@ const LONG: &[u8] = b"0123456789abcdefghijklmnopqrstuvwxyz0123456789abcdefghijkl
 
 // The argument that a command line is refused for, with the refusal's number, or none where it is taken.
 fn refused(words: &[&[u8]]) -> Result<Option<(Argument, u8)>, Fail> {
+    // a match: the refusal is an answer here, and only the other faults fail the test
     match read(words) {
         Ok(_) => Ok(None),
         Err(Fault::Refused(argument, refusal)) => Ok(Some((argument, refusal.number()))),
