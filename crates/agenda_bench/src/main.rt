@@ -2,6 +2,8 @@
 #![tactic(auto)]
 
 use anyhow::anyhow;
+use calendar::date::Date;
+use calendar::days::day_of;
 use calendar::starts::{DAY_MINUTES, Moment, STARTS_END};
 use calendar::windows::Window;
 use dates::dates::DateList;
@@ -36,6 +38,16 @@ fn argument(rt: &HostRuntime, place: usize) -> Option<u32> {
     let mut word = [0; 8];
     let len = rt.arg(place, &mut word).ok()?;
     number_of(word.get(..len)?).ok()
+}
+
+// The UID s000 to s999: in place, so that no text asks for memory.
+fn uid_of(number: u32) -> [u8; 4] {
+    [
+        b's',
+        b'0' + (number / 100 % 10) as u8,
+        b'0' + (number / 10 % 10) as u8,
+        b'0' + (number % 10) as u8,
+    ]
 }
 
 // A weekly series from a day of a year's first week on, at a clock of its own; its occurrence of a week in 2024 is moved by a day.
@@ -78,13 +90,17 @@ fn main(rt: HostRuntime) -> anyhow::Result<()> {
     let mut diary = Diary::new(heap, table)?;
     let mut log = UndoLog::new(heap, 16)?;
     let mut entered = 0u32;
-    let date = format!(in heap; "{year:04}0101")?;
+    let first = day_of(Date {
+        year: year as u16,
+        month: 1,
+        day: 1,
+    });
     for number in 0..count {
-        let entry = read_day(date.as_bytes())
+        let entry = first
+            .ok_or(Refusal::OutOfBounds)
             .and_then(|first| weekly(first, number))
             .map_err(|_| anyhow!("a series cannot be made"))?;
-        let uid = format!(in heap; "s{number:03}")?;
-        if diary.enter(&mut log, uid.as_bytes(), &entry).is_ok() {
+        if diary.enter(&mut log, &uid_of(number), &entry).is_ok() {
             entered = entered.saturating_add(1);
         }
     }

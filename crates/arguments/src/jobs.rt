@@ -1,6 +1,7 @@
 // Reading the arguments into a job.
 ghost use Rattle.std.specs.Prelude.{◌≡◌, ◌<◌, ◌⊎◌, Some, None, Ok, IfOk, MatchResult};
 ghost use Rattle.arguments.specs.Faults.{told, told_of, count_fault, job_fault, fault_of};
+ghost use Rattle.bounded.specs.Held.{held};
 ghost use Rattle.arguments.specs.Jobs.{HasShared, ReadsAll, timed_of};
 
 use crate::faults::{Argument, Fault};
@@ -9,13 +10,18 @@ use crate::timed::{Shared, Timed};
 use crate::words::{read_days, read_duration, read_interval, read_label, read_recurring};
 use event::events::Event;
 use series::records::Series;
+use series::uids::Uid;
 
-// The job of the words, where those of the days were read already: the first that is refused decides.
-fn read_job<S: Copy>(words: &Shared<'_>, timed: Result<Timed<S>, Fault>) -> Result<Job<S>, Fault>
+// The job of the words, where the UID and the words of the days were read already: the first that is refused decides.
+fn read_job<S: Copy>(
+    uid: Uid,
+    words: &Shared<'_>,
+    timed: Result<Timed<S>, Fault>,
+) -> Result<Job<S>, Fault>
+    requires { held uid.octets ≡ words.now.uid.now }
     ensures fault { told_of result ≡ job_fault words.now (told_of timed) }
     ensures value { IfOk result (λ j. HasShared words.now j × (timed ≡ Ok (timed_of j))) }
 {
-    let uid = read_label(words.uid, Argument::Uid)?;
     let Timed { source, clock } = timed?;
     let duration = read_duration(words.duration)?;
     let text = read_label(words.text, Argument::Text)?;
@@ -67,7 +73,9 @@ pub fn read(words: &[&[u8]]) -> Result<Command, Fault>
                 first,
                 last,
             };
-            let job = read_job(&shared, read_interval(interval))?;
+            // the UID first: one that is refused spares the reading of the days
+            let uid = read_label(uid, Argument::Uid)?;
+            let job = read_job(uid, &shared, read_interval(interval))?;
             Ok(Command::ByInterval(job))
         }
         [uid, start, rule, duration, text, first, last] => {
@@ -78,7 +86,8 @@ pub fn read(words: &[&[u8]]) -> Result<Command, Fault>
                 first,
                 last,
             };
-            let job = read_job(&shared, read_recurring(start, rule))?;
+            let uid = read_label(uid, Argument::Uid)?;
+            let job = read_job(uid, &shared, read_recurring(start, rule))?;
             Ok(Command::ByRule(job))
         }
         _ => Err(miscounted(words.len())),

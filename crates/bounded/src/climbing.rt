@@ -17,10 +17,11 @@ impl<T: Dated + Copy, const N: usize> Climbing<T, N> {
     pub fn new(records: &[T], blank: T) -> Option<Climbing<T, N>>
         ensures { MatchOption result (climbable T.day_of T.carries N records.now ≡ false) (λ c. (climbable T.day_of T.carries N records.now ≡ true) × (held c.list ≡ records.now)) }
     {
-        let list = Bounded::new(records, blank)?;
-        if !climb(records) {
+        // the number of records first, so that a long slice is not read
+        if records.len() > N || !climb(records) {
             return None;
         }
+        let list = Bounded::new(records, blank)?;
         Some(Climbing { list })
     }
 

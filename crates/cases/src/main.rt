@@ -31,12 +31,19 @@ fn start_of_row(row: &[u8]) -> Option<Moment> {
     })
 }
 
-// Whether the next days are the dates of a list parted by commas.
+// The most dates that a list may have.
+const DATES: usize = 10_000;
+
+// Whether the next days are the dates of a list parted by commas; one more comma may stand behind the last.
 fn begin_with<S: Source>(days: &mut Walk<'_, S>, dates: &[u8]) -> bool {
     if dates.is_empty() {
         return true;
     }
-    for date in dates.split(|octet| *octet == b',') {
+    let dates = dates.strip_suffix(b",").unwrap_or(dates);
+    for (before, date) in dates.split(|octet| *octet == b',').enumerate() {
+        if before == DATES {
+            return false;
+        }
         let day = read_day(date).ok();
         if day.is_none() || days.next() != day {
             return false;
@@ -119,7 +126,12 @@ fn run<F: Fn(&[u8]) -> bool>(rt: &HostRuntime, name: &str, holds: F) -> anyhow::
     let octets = fs::read(rt, name)?;
     let mut passed = 0u32;
     let mut failed = 0u32;
-    for (before, row) in octets.split(|octet| *octet == b'\n').enumerate() {
+    // what stands behind the last line feed is no row
+    let ended = octets
+        .iter()
+        .rposition(|octet| *octet == b'\n')
+        .map_or(0, |last| last + 1);
+    for (before, row) in octets[..ended].split(|octet| *octet == b'\n').enumerate() {
         if row.is_empty() || row[0] == b'#' {
             continue;
         }

@@ -52,7 +52,8 @@ pub fn next_picked(pattern: &Pattern, start: u32, from: u32, end: u32) -> Option
     ensures first { MatchOption result (Asked pattern.now start from end → NoneIn (picks pattern.now start) from end) (λ d. Asked pattern.now start from end × FirstIs (picks pattern.now start) from end d) }
     ensures unasked { (Asked pattern.now start from end → ⊥) → result ≡ None }
 {
-    if from > end || end > LAST_DAY + 1 {
+    // where no day lies between, the pattern is not looked at
+    if from >= end || end > LAST_DAY + 1 {
         return None;
     }
     Started::new(pattern, start)?.seek(from, end)

@@ -28,7 +28,12 @@ impl Rule {
     fn at_or_after(&self, day: u32) -> Option<u32>
         ensures { First (chooses self.now.choice.pattern self.now.choice.start) (max self.now.choice.start day) self.now.end result }
     {
-        self.choice.next_day(self.choice.start.max(day), self.end)
+        let from = self.choice.start.max(day);
+        // past the end nothing is asked of the pattern
+        if from >= self.end {
+            return None;
+        }
+        self.choice.next_day(from, self.end)
     }
 
     // The last day of the head before `day`.

@@ -1,2 +1,3 @@
 pub mod Fielding
 pub mod Keywords
+pub mod Repeats

@@ -1,5 +1,5 @@
 -- The parts of a rule, each read from its value and given once.
-use Rattle.std.specs.Prelude.{ℕ, List, Some, None, Ok, Err, Option, Result}
+use Rattle.std.specs.Prelude.{ℕ, Bool, List, is_some, Some, None, Ok, Err, Option, Result}
 use Rattle.calendar.specs.declared.starts.Moment.{Moment}
 use Rattle.calendar.specs.declared.weekdays.Weekday.TheVariants.{Monday}
 use Rattle.refusal.specs.declared.Refusal.{Refusal}
@@ -30,6 +30,17 @@ abbrev pub once : {X : Type 0} → Option X → Option X → Result (Option X) R
 once None None = Err BadPart
 once None (Some x) = Ok (Some x)
 once (Some y) o = Err BadPart
+
+-- whether a part is there
+abbrev pub there : Parts → Part → Bool
+there p Freq = is_some p.frequency
+there p Interval = is_some p.interval
+there p WeekStart = is_some p.week_start
+there p Count = is_some p.count
+there p Until = is_some p.until
+there p Months = is_some p.months
+there p MonthDays = is_some p.month_days
+there p WeekDays = is_some p.week_days
 
 -- the parts with one of them filled, unless it was refused
 abbrev pub filled : {X : Type 0} → (X → Parts) → Result X Refusal → Result Parts Refusal

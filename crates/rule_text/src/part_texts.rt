@@ -1,7 +1,7 @@
 // Reading one part of a rule.
 // A `let .. else` at each mark that parts the text.
 ghost use Rattle.std.specs.Prelude.{◌≡◌, MatchResult, Ok, Err};
-ghost use Rattle.rule_text.specs.Parts.{until_named, once, part_read};
+ghost use Rattle.rule_text.specs.Parts.{until_named, once, there, part_read};
 
 use crate::lists::read_list;
 use crate::parts::Parts;
@@ -42,14 +42,36 @@ fn once<T: Copy>(part: &mut Option<T>, read: Option<T>) -> Result<(), Refusal>
     Ok(())
 }
 
+// Whether a part is there already.
+fn is_there(parts: &Parts, part: Part) -> bool
+    ensures { result ≡ there parts.now part }
+{
+    match part {
+        Part::Freq => parts.frequency.is_some(),
+        Part::Interval => parts.interval.is_some(),
+        Part::WeekStart => parts.week_start.is_some(),
+        Part::Count => parts.count.is_some(),
+        Part::Until => parts.until.is_some(),
+        Part::Months => parts.months.is_some(),
+        Part::MonthDays => parts.month_days.is_some(),
+        Part::WeekDays => parts.week_days.is_some(),
+    }
+}
+
 // The parts with the one that a field NAME=value gives.
+#[tactic(auto, using(crate::proofs::Repeats::there_refused))]
 pub(crate) fn read_part(mut parts: Parts, field: &[u8]) -> Result<Parts, Refusal>
     ensures { result ≡ part_read parts field.now }
 {
     let Some((name, value)) = cut(field, '=') else {
         return Err(Refusal::BadPart);
     };
-    match part_named(name).ok_or(Refusal::BadPart)? {
+    let part = part_named(name).ok_or(Refusal::BadPart)?;
+    // before its value is read, which may be long
+    if is_there(&parts, part) {
+        return Err(Refusal::BadPart);
+    }
+    match part {
         Part::Freq => once(&mut parts.frequency, frequency_named(value))?,
         Part::Interval => once(&mut parts.interval, capped_of(value))?,
         Part::WeekStart => once(&mut parts.week_start, weekday_named(value))?,

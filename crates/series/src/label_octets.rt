@@ -14,7 +14,7 @@ impl<A: Alphabet, const N: usize> Label<A, N> {
     pub fn new(octets: &[u8]) -> Result<Label<A, N>, Refusal>
         ensures { MatchResult result (λ l. (bounded N A.holds octets.now ≡ true) × (held l.octets ≡ octets.now)) (λ e. (bounded N A.holds octets.now ≡ false) × (number e ≡ 8)) }
     {
-        if octets.is_empty() || !all_of::<A>(octets) {
+        if octets.is_empty() || octets.len() > N || !all_of::<A>(octets) {
             return Err(Refusal::OutOfBounds);
         }
         let octets = Bounded::new(octets, 0).ok_or(Refusal::OutOfBounds)?;

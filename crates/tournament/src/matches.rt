@@ -8,7 +8,12 @@ use crate::nodes::Node;
 pub fn better(a: Node, b: Node) -> Node
     ensures { Better a b result }
 {
-    a.min(b)
+    // not min: of two of the same start and place the first stays, whatever their days
+    if (b.start, b.place) < (a.start, a.place) {
+        b
+    } else {
+        a
+    }
 }
 
 // Lent nodes, and how many places there are: inner nodes from 1 on, and behind them a leaf for each place.
